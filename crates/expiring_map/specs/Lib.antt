@@ -1,0 +1,4 @@
+pub mod ValueUntil
+pub mod Kept
+pub mod Map
+pub mod Live

@@ -1,0 +1,62 @@
+use Rattle.std.specs.Prelude.{ℕ, ◌-◌, Bool, List, [], ◌∷◌, ◌++◌, Option, Some, None, length, take, drop, fold, filter, flat_map, nat_lt, not, ◌||◌, ◌==◌, if◌then◌else◌}
+use Rattle.std.specs.List.{list_all}
+use Rattle.std.specs.Int.{to_le_bytes, from_le_bytes, w32}
+use Rattle.std.specs.FinMap as fin
+use Rattle.expiring_map.specs.ValueUntil.{ValueUntil}
+use Rattle.expiring_map.specs.Map.{Map, value_until}
+use Rattle.kv_pairs.specs.Lengths.{shortest}
+use Rattle.kv_pairs.specs.Reading.{greedy_items}
+use Rattle.kv_pairs.specs.declared.item.Item.{Item}
+
+-- the bytes that stand for a value: with the flag, its expiry follows in four bytes
+abbrev pub stored : Bool → ValueUntil → List ℕ
+stored flag d = d.value ++ (if flag then to_le_bytes w32 d.expiry else [])
+
+-- the value and expiry that such bytes stand for
+abbrev pub unstored : Bool → List ℕ → ValueUntil
+unstored flag bytes =
+    if flag
+    then value_until (take (length bytes - 4) bytes) (from_le_bytes w32 (drop (length bytes - 4) bytes))
+    else value_until bytes 0
+
+-- an empty value removes the key; another gives it its value
+abbrev pub with_item : Bool → Map → Item → Map
+with_item flag m item =
+    if length item.value == 0 then fin.remove m item.key else fin.insert m item.key (unstored flag item.value)
+
+-- with the flag, a value has room for its expiry and a byte, or is empty
+abbrev pub has_room_for_expiry : Bool → Item → Bool
+has_room_for_expiry flag item = not flag || ((length item.value == 0) || nat_lt 4 (length item.value))
+
+abbrev pub with_items : Bool → Map → List Item → Map
+with_items flag m items = fold (with_item flag) m items
+
+-- the map of these items, each key with its last: none where the flag is on and a value has no room for its expiry
+abbrev pub map_of : Bool → List Item → Option Map
+map_of flag items = if list_all (has_room_for_expiry flag) items then Some (with_items flag fin.empty items) else None
+
+-- the map of the items that a payload begins with, but for those with no room for their expiry
+abbrev pub greedy_map : Bool → List ℕ → Map
+greedy_map flag bytes = with_items flag fin.empty (filter (has_room_for_expiry flag) (greedy_items bytes))
+
+-- bytes with their length before them
+abbrev pub length_prefixed : List ℕ → List ℕ
+length_prefixed bytes = shortest (length bytes) ++ bytes
+
+-- the item that gives this key this value; the item that removes it
+abbrev pub put_item : Bool → List ℕ → ValueUntil → List ℕ
+put_item flag key d = length_prefixed key ++ length_prefixed (stored flag d)
+
+abbrev pub remove_item : List ℕ → List ℕ
+remove_item key = length_prefixed key ++ length_prefixed []
+
+-- where a payload begins, the three bytes and a 7 stand for a length that counts for nothing
+abbrev pub heading : List ℕ
+heading = 0xff ∷ 0xff ∷ 0xff ∷ 0x07 ∷ []
+
+-- the payload of a map: its items in byte order of keys
+unfoldable pub packed : Bool → Map → List ℕ
+packed flag m = heading ++ flat_map (λ e. put_item flag e.0 e.1) (fin.entries m)
+
+abbrev pub packed_size : Bool → Map → ℕ
+packed_size flag m = length (packed flag m)
