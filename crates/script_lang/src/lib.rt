@@ -3,9 +3,12 @@
 
 mod answers;
 mod changes;
+mod outcome;
 mod output;
 mod words;
 
-pub use answers::answer_text;
+pub use answers::{answer_text, damage_text, outcome_text};
 pub use changes::changes_text;
+pub use outcome::{Outcome, Reason};
 pub use output::{WriteFault, write_all};
+pub use words::hex_word;
