@@ -2,9 +2,11 @@
 #![tactic(auto)]
 
 mod bytes;
+mod iter;
 mod map;
 mod pair;
 
 pub use bytes::{Bytes, Memory};
+pub use iter::{Iter, PairRef};
 pub use map::ExpiringMap;
 pub use pair::{Keys, Pair, Pairs};
