@@ -1,10 +1,12 @@
 -- The map as its callers see it, when the entries that the code keeps change.
-use Rattle.std.proofs.Common.{◌≡◌, ℕ, Bool, true, false, cond, List, [], ◌∷◌, Vec, suc, refl, sym, ap, ◌∙◌, length}
+use Rattle.std.proofs.Common.{subst, ◌≡◌, ℕ, Bool, true, false, cond, List, [], ◌∷◌, Vec, suc, refl, sym, ap, ◌∙◌, length}
 use Rattle.std.specs.Prelude.{Option, Some, None, map, T, ◌&&◌}
 use Rattle.std.specs.declared.alloc.Global.{Global}
 use Rattle.std.specs.declared.cmp.Ordering.{Ordering}
 use Rattle.std.specs.declared.cmp.Ordering.TheVariants.{Less, Equal, Greater}
-use Rattle.std.specs.List.{AllByRecursion}
+use Rattle.std.specs.List.{AllByRecursion, AllZip}
+use Rattle.std.specs.Vec.{vec_len}
+use Rattle.std.proofs.lemmas.List.Elements.{same_from_all_zip}
 use Rattle.std.specs.List.Sorted.{IsStrictlySortedBy}
 use Rattle.std.specs.Map.{keys_of, lookup, remove_entry}
 use Rattle.std.specs.BTreeMap.{is_at, insert_entry}
@@ -13,10 +15,10 @@ use Rattle.std.specs.Ordering.{nat_cmp, eq_by_cmp, is_lt, match_ordering}
 use Rattle.std.specs.Cmp.{eq_by_cmp_equiv}
 use Rattle.std.specs.Cmp.Lexicographic.{slice_cmp, nat_list_cmp_total}
 use Rattle.std.specs.FinMap as fin
-use Rattle.expiring_map.specs.declared.map.Kept.{Kept}
+use Rattle.expiring_map.specs.declared.kept.Kept.{Kept}
 use Rattle.expiring_map.specs.ValueUntil.{ValueUntil}
-use Rattle.expiring_map.specs.Map.{Map, pairs_of}
-use Rattle.expiring_map.specs.Kept.{value_kept, values_kept, pair_kept, map_kept, kept_order, AreOrdered}
+use Rattle.expiring_map.specs.Map.{Map, pairs_of, IsFilled}
+use Rattle.expiring_map.specs.Kept.{value_kept, values_kept, pair_kept, map_kept, kept_order, AreOrdered, AreKept}
 use Rattle.expiring_map.proofs.Refold.{order, Entry, same_keys, not_below, is_equal, first, second}
 
 abbrev pub KeptEntry : Type 0
@@ -30,6 +32,11 @@ less : (r : Ordering) → r ≡ Less → T (is_lt r)
 less Less e = tt
 less Equal e = absurd cc
 less Greater e = absurd cc
+
+is_less : (r : Ordering) → T (is_lt r) → r ≡ Less
+is_less Less h = refl
+is_less Equal h = absurd h
+is_less Greater h = absurd h
 
 below_values : (k : List ℕ) (es : List KeptEntry) → AllByRecursion (λ y. slice_cmp nat_cmp k y.items ≡ Less) (keys_of es) → T (fin.Entries.below_all order k (values_kept es))
 below_values k [] h = tt
@@ -127,3 +134,33 @@ seen-remove q es h =
 pub is_some-map : (o : Option Kept) → is_some o ≡ is_some (option_map value_kept o)
 is_some-map (Some v) = refl
 is_some-map None = refl
+
+all_less : (k : List ℕ) (es : List KeptEntry) → T (fin.Entries.below_all order k (values_kept es)) → AllByRecursion (λ y. slice_cmp nat_cmp k y.items ≡ Less) (keys_of es)
+all_less k [] h = tt
+all_less k (e ∷ es) h = (is_less _ (first _ _ h), all_less k es (second _ _ h))
+
+AreOrdered-values : (es : List KeptEntry) → T (fin.is_sorted order (values_kept es)) → AreOrdered es
+unfolding IsStrictlySortedBy
+AreOrdered-values [] h = tt
+AreOrdered-values (e ∷ es) h = (all_less e.0.items es (first _ _ h), AreOrdered-values es (second _ _ h))
+
+-- entries that show the same keys and values are kept as well
+pub AreKept-same : (es fs : List KeptEntry) → values_kept fs ≡ values_kept es → AreKept es → AreKept fs
+AreKept-same es fs e h = record {
+  ordered = AreOrdered-values fs (subst (λ vs. T (fin.is_sorted order vs)) (sym e) (sorted_values es h.ordered));
+  filled = subst IsFilled (ap (λ vs. fin.from_entries vs) (sym e)) h.filled;
+}
+
+abbrev IsCopied : KeptEntry → KeptEntry → Type 0
+IsCopied e f = (AllZip (λ (x y : ℕ). y ≡ x) e.0.items f.0.items × (vec_len f.0 ≡ vec_len e.0)) × (f.1 ≡ e.1)
+
+-- clones of entries show the same keys and values
+pub values_copied : (es fs : List KeptEntry) → AllZip IsCopied es fs → values_kept fs ≡ values_kept es
+values_copied [] [] h = refl
+values_copied [] (f ∷ fs) h = absurd h
+values_copied (e ∷ es) [] h = absurd h
+values_copied (e ∷ es) (f ∷ fs) h =
+    let key : f.0.items ≡ e.0.items = same_from_all_zip (λ x y. y ≡ x) e.0.items f.0.items h.0.0.0 (λ x y is. is) in
+    let value : f.1 ≡ e.1 = h.0.1 in
+    let rest : values_kept fs ≡ values_kept es = values_copied es fs h.1 in
+    cc

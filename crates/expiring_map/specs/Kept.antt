@@ -9,7 +9,7 @@ use Rattle.std.specs.Cmp.Lexicographic.{slice_cmp}
 use Rattle.std.specs.FinMap as fin
 use Rattle.expiring_map.specs.ValueUntil.{ValueUntil}
 use Rattle.expiring_map.specs.Map.{Map, IsFilled}
-use Rattle.expiring_map.specs.declared.map.Kept.{Kept}
+use Rattle.expiring_map.specs.declared.kept.Kept.{Kept}
 use Rattle.expiring_map.specs.declared.pair.Pair.{Pair}
 
 abbrev pub value_kept : Kept → ValueUntil

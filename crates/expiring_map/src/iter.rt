@@ -4,7 +4,7 @@ ghost use Rattle.std.specs.Iterator.{at_most};
 ghost use Rattle.std.specs.Map.Iter.{TakesFirst};
 ghost use Rattle.expiring_map.specs.Lent.{lent};
 
-use crate::map::Kept;
+use crate::kept::Kept;
 use std::collections::btree_map;
 use std::marker::Model;
 

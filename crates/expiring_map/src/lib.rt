@@ -3,6 +3,7 @@
 
 mod bytes;
 mod iter;
+mod kept;
 mod map;
 mod pair;
 

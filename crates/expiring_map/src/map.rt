@@ -1,26 +1,23 @@
 // The map from keys to values that expire.
-ghost use Rattle.std.specs.Prelude.{◌≡◌, ◌≢◌, [], OnOk, OnErr};
+ghost use Rattle.std.specs.Prelude.{◌≡◌, ◌≢◌, ◌+◌, ◌==◌, [], IfOk, OnOk, OnErr};
+ghost use Rattle.std.specs.Option.{option_copied};
 ghost use Rattle.std.specs.FinMap as fin;
 ghost use Rattle.expiring_map.specs.Map.{with_pair, pairs_of, IsFilled};
+ghost use Rattle.expiring_map.specs.Live.{value_at, live_part, with_expiry, keys_at, count_at};
 
 use crate::bytes::{Bytes, Memory};
 use crate::iter::Iter;
-use crate::pair::Pair;
+use crate::kept::Kept;
+use crate::pair::{Keys, Pair, Pairs};
 use std::alloc::Global;
 use std::collections::BTreeMap;
 use std::marker::Model;
-
-// A value under a key, with its expiry second, 0 for never.
-#[derive(Debug, Drop)]
-pub(crate) struct Kept {
-    pub(crate) value: Bytes,
-    pub(crate) expiry: u32,
-}
 
 /// A map from keys to values that expire. No key and no value in it is empty.
 #[derive(Debug, Drop)]
 pub struct ExpiringMap {
     kept: BTreeMap<Vec<u8>, Kept>,
+    alloc: Global,
 }
 
 impl Model for ExpiringMap {
@@ -49,6 +46,7 @@ impl ExpiringMap {
     {
         ExpiringMap {
             kept: BTreeMap::new(alloc),
+            alloc,
         }
     }
 
@@ -73,6 +71,89 @@ impl ExpiringMap {
         ensures after { self.new ≡ fin.remove self.old key.now }
     {
         self.kept.remove(key).is_some()
+    }
+
+    /// The value of a key at a second.
+    pub fn value_at(&self, key: &[u8], now: u32) -> Option<&[u8]>
+        ensures { option_copied result ≡ value_at self.now key.now now }
+    {
+        let kept = self.kept.get(key)?;
+        if !kept.is_live(now) {
+            return None;
+        }
+        Some(kept.value.as_slice())
+    }
+
+    /// Drops the pairs that have expired at a second, and says how many.
+    pub fn drop_expired(&mut self, now: u32) -> usize
+        ensures after { self.new ≡ live_part self.old now }
+        ensures count { result + fin.len self.new ≡ fin.len self.old }
+    {
+        let before = self.kept.len();
+        self.kept.retain(|_, kept| kept.is_live(now));
+        before - self.kept.len()
+    }
+
+    /// Gives every pair this expiry second, 0 for never.
+    pub fn set_expiry(&mut self, expiry: u32)
+        ensures { self.new ≡ with_expiry expiry self.old }
+    {
+        self.kept.retain(|_, kept| {
+            kept.expiry = expiry;
+            true
+        });
+    }
+
+    pub fn copy(&self) -> Result<ExpiringMap, Memory>
+        ensures ok { IfOk result (λ copy. copy ≡ self.now) }
+        ensures filled { IsFilled self.now }
+    {
+        Ok(ExpiringMap {
+            kept: self.kept.clone()?,
+            alloc: self.alloc,
+        })
+    }
+
+    /// The pairs in byte order of keys, those that have expired too.
+    pub fn pairs(&self) -> Result<Pairs, Memory>
+        ensures ok { IfOk result (λ pairs. pairs ≡ pairs_of self.now) }
+        ensures filled { IsFilled self.now }
+    {
+        let mut pairs = Vec::with_capacity(self.alloc, self.kept.len())?;
+        for (key, kept) in &self.kept {
+            pairs.push(Pair {
+                key: Bytes::copy_of(self.alloc, key)?,
+                value: kept.value.clone()?,
+                expiry: kept.expiry,
+            })?;
+        }
+        Ok(Pairs::of_vec(pairs))
+    }
+
+    /// The keys that live at a second, in byte order.
+    pub fn keys_at(&self, now: u32) -> Result<Keys, Memory>
+        ensures { IfOk result (λ keys. keys ≡ keys_at self.now now) }
+    {
+        let mut keys = Vec::new(self.alloc);
+        for (key, kept) in &self.kept {
+            if kept.is_live(now) {
+                keys.push(Bytes::copy_of(self.alloc, key)?)?;
+            }
+        }
+        Ok(Keys::of_vec(keys))
+    }
+
+    /// How many keys live at a second.
+    pub fn count_at(&self, now: u32) -> usize
+        ensures { result ≡ count_at self.now now }
+    {
+        self.kept.values().filter(|kept| kept.is_live(now)).count()
+    }
+
+    pub fn is_empty(&self) -> bool
+        ensures { result ≡ (fin.len self.now == 0) }
+    {
+        self.len() == 0
     }
 
     /// The number of pairs, those that have expired too.
