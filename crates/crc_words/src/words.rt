@@ -1,5 +1,5 @@
 // The checksum of bytes that lie in words.
-ghost use Rattle.std.specs.Prelude.{◌≡◌, ◌+◌, ◌*◌, ◌≤◌, length, take, drop, slice_index, ◌<◌};
+ghost use Rattle.std.specs.Prelude.{◌≡◌, ◌+◌, ◌*◌, ◌<◌, ◌≤◌, length, take, drop, slice_index};
 ghost use Rattle.crc_words.specs.Crc.{crc_from};
 ghost use Rattle.crc_words.specs.WordBytes.{bytes_of_words};
 

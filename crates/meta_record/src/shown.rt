@@ -1,5 +1,5 @@
 // Which image of a region stands.
-ghost use Rattle.std.specs.Prelude.{◌≡◌, ◌+◌, ◌≤◌, length};
+ghost use Rattle.std.specs.Prelude.{◌≡◌, ◌≤◌, length};
 ghost use Rattle.meta_record.specs.Words.{fits};
 ghost use Rattle.meta_record.specs.Records.{checked, agrees, shown_size};
 
