@@ -32,6 +32,11 @@ pub Small-from : (bs : List ℕ) → All (λ b. b < 256) bs → Small bs
 Small-from [] h = tt
 Small-from (b ∷ bs) h = (h 0 0 (omega arith), Small-from bs (λ k d lt. h (suc k) d (omega (arith, lt))))
 
+-- what each place of a slice of bytes is known to be
+pub Small-of : (bs : List ℕ) → ((i : ℕ) → get_or bs i 0 < 256) → Small bs
+Small-of [] h = tt
+Small-of (b ∷ bs) h = (h 0, Small-of bs (λ i. h (suc i)))
+
 Small-within : (bs : List ℕ) (k d : ℕ) → Small bs → k < length bs → get_or bs k d < 256
 Small-within [] k d s lt = absurd (omega (arith, lt))
 Small-within (b ∷ bs) zero d s lt = s.0

@@ -75,7 +75,7 @@ number_ok (suc k) (b ∷ bs) n rest s e = by_test (nat_lt b 128) (number_in k bs
     by_test true o t e go = last_byte k b bs n rest (grind (arith, nat_tests)) e
     by_test false o t e go = by_more o (grind (arith, nat_tests)) e go
 
-length_ok : (bytes : List ℕ) (n : ℕ) (rest : List ℕ) → Small bytes → length_at bytes ≡ found n rest →
+pub length_ok : (bytes : List ℕ) (n : ℕ) (rest : List ℕ) → Small bytes → length_at bytes ≡ found n rest →
     (text : List ℕ) × Spells text n × (bytes ≡ text ++ rest)
 unfolding length_at
 length_ok bytes n rest s e = by_number (number_in 5 bytes) e (λ m tail q. number_ok 5 bytes m tail s q)
