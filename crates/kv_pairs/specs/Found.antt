@@ -1,5 +1,5 @@
 -- What reading found, and why it stopped.
-use Rattle.std.specs.Prelude.{ℕ, ◌<◌, List, [], ◌∷◌, Option, Some, None, length}
+use Rattle.std.specs.Prelude.{◌≢◌, ℕ, List, [], ◌∷◌, Option, Some, None}
 use Rattle.kv_pairs.specs.declared.item.Item.{Item}
 use Rattle.kv_pairs.specs.declared.decode.Entry.{Entry}
 use Rattle.kv_pairs.specs.declared.decode.ItemsStop.{ItemsStop}
@@ -8,7 +8,7 @@ use Rattle.kv_pairs.specs.declared.decode.ItemsStop.TheVariants.{NotItems, Memor
 -- no item of the list has an empty key
 abbrev pub HaveKeys : List Item → Type 0
 HaveKeys [] = Unit {0}
-HaveKeys (item ∷ items) = (0 < length item.key) × HaveKeys items
+HaveKeys (item ∷ items) = (item.key ≢ []) × HaveKeys items
 
 -- the item of an entry, if there is one
 abbrev pub items_found : Option Entry → List Item

@@ -5,6 +5,6 @@ mod decode;
 mod item;
 mod length;
 
-pub use decode::ItemsStop;
+pub use decode::{ItemsStop, decode_all, decode_from, decode_greedy};
 pub use item::{Item, Items};
 pub use length::{LengthFault, read_length};
