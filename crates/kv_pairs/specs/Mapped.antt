@@ -1,11 +1,11 @@
-use Rattle.std.specs.Prelude.{ℕ, ◌-◌, Bool, List, [], ◌∷◌, ◌++◌, Option, Some, None, length, take, drop, fold, filter, flat_map, nat_lt, not, ◌||◌, ◌==◌, if◌then◌else◌}
+use Rattle.std.specs.Prelude.{ℕ, ◌+◌, ◌-◌, Bool, List, [], ◌∷◌, ◌++◌, Option, Some, None, length, take, drop, fold, option_and_then, option_map, filter, flat_map, nat_lt, not, ◌||◌, ◌==◌, if◌then◌else◌}
 use Rattle.std.specs.List.{list_all}
 use Rattle.std.specs.Int.{to_le_bytes, from_le_bytes, w32}
 use Rattle.std.specs.FinMap as fin
 use Rattle.expiring_map.specs.ValueUntil.{ValueUntil}
 use Rattle.expiring_map.specs.Map.{Map, value_until}
 use Rattle.kv_pairs.specs.Lengths.{shortest}
-use Rattle.kv_pairs.specs.Reading.{greedy_items}
+use Rattle.kv_pairs.specs.Reading.{items_of, greedy_items}
 use Rattle.kv_pairs.specs.declared.item.Item.{Item}
 
 -- the bytes that stand for a value: with the flag, its expiry follows in four bytes
@@ -34,6 +34,16 @@ with_items flag m items = fold (with_item flag) m items
 -- the map of these items, each key with its last: none where the flag is on and a value has no room for its expiry
 abbrev pub map_of : Bool → List Item → Option Map
 map_of flag items = if list_all (has_room_for_expiry flag) items then Some (with_items flag fin.empty items) else None
+
+-- the map of a payload: none where it has no items, or its items have no map
+abbrev pub map_in : Bool → List ℕ → Option Map
+map_in flag bytes = option_and_then (map_of flag) (items_of bytes)
+
+-- the first place at which an item has no room for its expiry
+abbrev pub first_without_room : Bool → List Item → Option ℕ
+first_without_room flag [] = None
+first_without_room flag (item ∷ items) =
+    if has_room_for_expiry flag item then option_map (λ place. place + 1) (first_without_room flag items) else Some 0
 
 -- the map of the items that a payload begins with, but for those with no room for their expiry
 abbrev pub greedy_map : Bool → List ℕ → Map
