@@ -1,6 +1,6 @@
 // Bytes as they are printed.
 ghost use Rattle.std.specs.Prelude.{◌≡◌, [], ◌∷◌, IfOk, string_bytes, codes, decimal};
-ghost use Rattle.script_lang.specs.Texts.{hex, spaced};
+ghost use Rattle.script_lang.specs.Texts.{hex, hex_number, spaced};
 
 use std::alloc::{AllocError, Global};
 
@@ -23,4 +23,11 @@ pub fn put_text(alloc: Global, key: &[u8], value: &[u8], number: u32) -> Result<
     let key = hex_word(alloc, key)?;
     let value = hex_word(alloc, value)?;
     format!(in alloc; "put {key} {value} {number}")
+}
+
+/// A checksum as eight hexadecimal digits.
+pub fn checksum_word(alloc: Global, checksum: u32) -> Result<String, AllocError>
+    ensures { IfOk result (λ text. string_bytes text ≡ hex_number checksum) }
+{
+    hex::encode(alloc, checksum.to_be_bytes().as_slice())
 }
