@@ -4,6 +4,7 @@ ghost use Rattle.kv_pairs.specs.Lengths.{Spells, shortest};
 ghost use Rattle.kv_pairs.specs.Reading.{length_at, number_in};
 ghost use Rattle.kv_pairs.specs.Faults.{is_cut, is_too_long, all_high};
 
+use expiring_map::Memory;
 use thiserror::Error;
 
 /// Why no length stands at the front of some bytes.
@@ -53,4 +54,37 @@ fn read_number(bytes: &[u8], most: u32) -> Result<(u64, usize), LengthFault>
             Ok((u64::from(*first % 128) + 128 * number, size + 1))
         }
     }
+}
+
+/// How many bytes the shortest spelling takes.
+pub fn length_size(n: u32) -> usize
+    ensures size { result ≡ length (shortest n) }
+    ensures most { result ≤ 5 }
+{
+    match n {
+        0..=0x7f => 1,
+        0x80..=0x3fff => 2,
+        0x4000..=0x1f_ffff => 3,
+        0x20_0000..=0xfff_ffff => 4,
+        _ => 5,
+    }
+}
+
+/// Appends the shortest spelling. After `Memory` nothing was appended.
+pub fn write_length(n: u32, out: &mut Vec<u8>) -> Result<(), Memory>
+    requires { n < 2 ^ 31 }
+    ensures ok { OnOk result (out.new.items ≡ out.old.items ++ shortest n) }
+    ensures err { OnErr result (out.new.items ≡ out.old.items) }
+{
+    let mut groups = [0; 5];
+    let mut size = 0;
+    let mut left = n;
+    while left >= 128 {
+        groups[size] = (left % 128) as u8 + 128;
+        size += 1;
+        left /= 128;
+    }
+    groups[size] = left as u8;
+    out.extend_from_slice(&groups[..size + 1])?;
+    Ok(())
 }

@@ -1,11 +1,13 @@
 // The map of some items: each key has its last value, and with the flag a value ends with its expiry.
-ghost use Rattle.std.specs.Prelude.{◌≡◌, ◌≢◌, ℕ, ◌<◌, Bool, true, List, Some, None, [], IfOk, IfErr, OnOk, OnErr, length, filter, take};
+ghost use Rattle.std.specs.Prelude.{◌≡◌, ◌≢◌, ℕ, ◌<◌, Bool, true, List, is_some, Some, None, [], IfOk, IfErr, OnOk, OnErr, length, filter, take};
 ghost use Rattle.std.specs.FinMap as fin;
 ghost use Rattle.expiring_map.specs.Map.{value_until};
-ghost use Rattle.kv_pairs.specs.Mapped.{map_of, with_item, with_items, has_room_for_expiry, first_without_room, unstored};
+ghost use Rattle.kv_pairs.specs.Mapped.{map_of, with_item, with_items, has_room_for_expiry, first_without_room, map_in, units_fit, unstored};
 ghost use Rattle.kv_pairs.specs.Found.{HaveKeys, IfNoMap};
 
+use crate::decode::read_unit;
 use crate::item::{Item, Items};
+use crate::length::read_length;
 use expiring_map::{Bytes, ExpiringMap, Memory, Pair};
 use std::alloc::Global;
 use thiserror::Error;
@@ -115,4 +117,30 @@ fn value_of(flag: bool, bytes: Bytes) -> (Bytes, u32)
     let expiry = [value[end], value[end + 1], value[end + 2], value[end + 3]];
     value.truncate(end);
     (Bytes::of_vec(value), u32::from_le_bytes(expiry))
+}
+
+/// Whether a payload has a map.
+pub fn has_map(flag: bool, payload: &[u8]) -> bool
+    ensures { result ≡ is_some (map_in flag payload.now) }
+{
+    match read_length(payload) {
+        Ok((_, size)) => units_fit(flag, &payload[size..]),
+        Err(_) => payload.is_empty(),
+    }
+}
+
+// Whether some bytes are units to their end, each with room for its expiry.
+fn units_fit(flag: bool, bytes: &[u8]) -> bool
+    ensures { result ≡ units_fit flag bytes.now }
+{
+    let mut rest = bytes;
+    while let Some((entry, behind)) = read_unit(rest) {
+        if let Some(entry) = entry {
+            if !has_room(flag, entry.value) {
+                return false;
+            }
+        }
+        rest = behind;
+    }
+    rest.is_empty()
 }
