@@ -1,5 +1,5 @@
 // The map from keys to values that expire.
-ghost use Rattle.std.specs.Prelude.{◌≡◌, ◌≢◌, ◌+◌, ◌==◌, [], IfOk, OnOk, OnErr};
+ghost use Rattle.std.specs.Prelude.{◌≡◌, ◌≢◌, ◌+◌, ◌==◌, [], IfOk, OnOk, OnErr, length};
 ghost use Rattle.std.specs.Option.{option_copied};
 ghost use Rattle.std.specs.FinMap as fin;
 ghost use Rattle.expiring_map.specs.Map.{with_pair, pairs_of, IsFilled};
@@ -159,6 +159,7 @@ impl ExpiringMap {
     /// The number of pairs, those that have expired too.
     pub fn len(&self) -> usize
         ensures count { result ≡ fin.len self.now }
+        ensures pairs { result ≡ length (pairs_of self.now) }
         ensures filled { IsFilled self.now }
     {
         self.kept.len()

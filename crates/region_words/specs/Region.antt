@@ -1,8 +1,7 @@
 use Rattle.std.specs.Prelude.{◌≡◌, ℕ, ◌-◌, ◌%◌, ◌<◌, ◌≤◌, ◌⊎◌, Bool, List, Option, Some, None, length, All, IsOk, Result, Ok, Err, option_and_then, is_some, unwrap_or, ◌==◌, if◌then◌else◌}
 use Rattle.std.specs.FinMap as fin
 use Rattle.expiring_map.specs.Map.{Map}
-use Rattle.kv_pairs.specs.Reading.{items_of}
-use Rattle.kv_pairs.specs.Mapped.{map_of}
+pub use Rattle.kv_pairs.specs.Mapped.{map_in}
 use Rattle.kv_pairs.specs.Growth.{largest}
 use Rattle.meta_record.specs.Words.{word_at, fits, payload}
 use Rattle.meta_record.specs.Records.{record_at, checked, shown_size}
@@ -50,10 +49,6 @@ payload_of r n = payload r.data_bytes n
 
 abbrev pub IsAccepted : Region → Type 0
 IsAccepted r = IsOk (checked (record_of r) (header r))
-
--- the map of a payload: none where it has no items, or its items have no map
-abbrev pub map_in : Bool → List ℕ → Option Map
-map_in flag bytes = option_and_then (map_of flag) (items_of bytes)
 
 -- an image without a map is damage
 abbrev pub if_it_has_a_map : Region → Shown → Shown

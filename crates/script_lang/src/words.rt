@@ -26,6 +26,7 @@ pub fn put_text(alloc: Global, key: &[u8], value: &[u8], number: u32) -> Result<
 }
 
 /// A checksum as eight hexadecimal digits.
+#[tactic(auto, unfolding(crate::specs::Texts::hex_number))]
 pub fn checksum_word(alloc: Global, checksum: u32) -> Result<String, AllocError>
     ensures { IfOk result (λ text. string_bytes text ≡ hex_number checksum) }
 {

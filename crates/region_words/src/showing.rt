@@ -11,6 +11,7 @@ use meta_record::{Damage, RecordFault, Shown, check_record, load_word, record_of
 use std::alloc::Global;
 
 /// What a region of these data and meta bytes shows, or why its record is refused. It takes no memory.
+#[tactic(auto, unfolding(crate::specs::Region::shown))]
 pub fn shown(body: &[u8], meta: &[u8]) -> Result<Shown, RecordFault>
     requires data { 4 ≤ length body.now }
     requires meta { 112 ≤ length meta.now }
@@ -50,14 +51,14 @@ fn payload_of(body: &[u8], size: u32) -> &[u8]
 }
 
 /// The map with which a history of the region begins: that of the image shown, or the empty one of a damaged region.
-pub fn base_map(alloc: Global, body: &[u8], meta: &[u8], shown: Shown) -> Result<ExpiringMap, Memory>
+pub fn base_map(alloc: Global, body: &[u8], meta: &[u8], seen: Shown) -> Result<ExpiringMap, Memory>
     requires data { 4 ≤ length body.now }
     requires meta { 112 ≤ length meta.now }
-    requires shown { shown ≡ shown (region_of body.now meta.now) }
+    requires seen { seen ≡ shown (region_of body.now meta.now) }
     ensures { IfOk result (λ map. map ≡ base (region_of body.now meta.now)) }
 {
     let flag = record_of(meta).flags == 1;
-    match size_of(shown) {
+    match size_of(seen) {
         Some(size) => map_or_empty(alloc, flag, payload_of(body, size)),
         None => Ok(ExpiringMap::new(alloc)),
     }
