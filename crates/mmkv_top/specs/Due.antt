@@ -7,6 +7,9 @@ use Rattle.meta_record.specs.declared.shown.Shown.TheVariants.{Damaged}
 use Rattle.region_words.specs.Region.{Region, region_of, shown_if_accepted}
 use Rattle.region_words.specs.Stores.{Told, Untold, Nothing, Files, filled_up}
 use Rattle.region_words.specs.declared.shelf.TheConstants.{LARGEST_DATA, LARGEST_META}
+use Rattle.region_words.specs.declared.shelf.Brought.{Brought}
+use Rattle.region_words.specs.declared.shelf.ShelfStop.{ShelfStop}
+use Rattle.region_words.specs.declared.shelf.ShelfStop.TheVariants.{Failed, Absent, SizeRefused, Memory}
 use Rattle.script_lang.specs.Texts.{line, damage_text, region_text}
 use Rattle.mmkv_top.specs.declared.ending.Ending.{Ending}
 use Rattle.mmkv_top.specs.Ending.{ending}
@@ -50,3 +53,11 @@ abbrev pub IsDump : Told → Ending → Type 0
 IsDump Untold e = Contains (0 ∷ 6 ∷ 10 ∷ 13 ∷ 14 ∷ []) e.status
 IsDump Nothing e = e ≡ no_store
 IsDump (Files body meta) e = e ≡ dump_files body meta
+
+-- the ending that goes with what a shelf brought, or with why it brought nothing
+abbrev pub IsEndingOf : Result Brought ShelfStop → Ending → Type 0
+IsEndingOf (Ok b) e = e ≡ dump_of (region_in b.body b.meta)
+IsEndingOf (Err Failed) e = e ≡ ending 5 (codes "region fault\n")
+IsEndingOf (Err Absent) e = e ≡ no_store
+IsEndingOf (Err (SizeRefused n)) e = e ≡ over_limit n
+IsEndingOf (Err Memory) e = ⊥

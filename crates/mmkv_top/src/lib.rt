@@ -4,7 +4,7 @@
 mod command;
 mod dump;
 mod ending;
-mod run;
+mod top;
 
 pub use ending::Status;
-pub use run::run;
+pub use top::run;
