@@ -9,6 +9,7 @@ use std::fs::{Files, OpenFile};
 use std::io::{ErrorKind, Read};
 
 /// A directory with the two files `ID` and `ID.crc` of each store. It tells nothing of what they hold.
+#[derive(Drop)]
 pub struct DirShelf<'a, R: Files + AllocGlobal> {
     rt: &'a R,
     directory: Bytes,

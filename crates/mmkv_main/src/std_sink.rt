@@ -5,6 +5,7 @@ ghost use Rattle.region_words.specs.Outside.{Rose};
 use region_words::{Failed, Sink};
 
 /// Standard output. It tells nothing of what was written.
+#[derive(Drop)]
 pub struct StdSink<'a, R: Print> {
     rt: &'a R,
     faults: u64,
