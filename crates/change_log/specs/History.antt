@@ -11,8 +11,8 @@ use Rattle.change_log.specs.declared.call.Call.TheVariants as call
 use Rattle.change_log.specs.declared.call.Reply.{Reply}
 use Rattle.change_log.specs.declared.call.Reply.TheVariants as reply
 use Rattle.change_log.specs.declared.call.Answer.{Answer}
-use Rattle.change_log.specs.declared.weave.Entry.{Entry}
-use Rattle.change_log.specs.declared.weave.Entry.TheVariants as entry
+use Rattle.change_log.specs.declared.woven.Entry.{Entry}
+use Rattle.change_log.specs.declared.woven.Entry.TheVariants as entry
 
 -- what a call is answered that finds this map at a moment
 abbrev pub reply_in : Map → ℕ → Call → Reply

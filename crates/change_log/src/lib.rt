@@ -3,8 +3,10 @@
 
 mod call;
 mod change;
-mod weave;
+mod apply;
+mod woven;
 
 pub use call::{Answer, Call, Reply};
 pub use change::{Act, Change, Changes};
-pub use weave::Entry;
+pub use apply::replay;
+pub use woven::Entry;
