@@ -55,6 +55,12 @@ abbrev pub IsOwned : List Change → List Answer → ℕ → Change → Type 0
 IsOwned changes answers i c = IsTrue (is_of_call c.act) →
     IsAnswered changes answers i ⊎ (MakesNone is_of_call changes c.maker (i + 1) × IsLeftOpen answers c.maker i)
 
+-- the change at i is this opener's, and either the answered put or remove of this moment, or the last that it makes
+abbrev pub IsNext : List Change → List Answer → ℕ → ℕ → ℕ → Type 0
+IsNext changes answers i maker t =
+    (next : Change) × (slice_get changes i ≡ Some next) × (next.maker ≡ maker)
+    × ((IsTrue (is_append next.act) × Any (λ a. IsTrue (makes_change changes a) × (a.place ≡ i) × (a.now ≡ t)) answers) ⊎ MakesNone (λ _. true) changes maker (i + 1))
+
 -- a write-back is made for the put or remove that directly follows, or it is the last that its opener does
 abbrev pub IsFollowed : List Change → List Answer → ℕ → Change → Type 0
 IsFollowed changes answers i c = (t : ℕ) → c.act ≡ act.Pack t →

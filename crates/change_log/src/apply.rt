@@ -9,11 +9,7 @@ use expiring_map::{Bytes, ExpiringMap, Memory, Pair};
 use std::alloc::Global;
 
 /// The map after these changes, the first of them first.
-pub fn replay(
-    alloc: Global,
-    base: &ExpiringMap,
-    changes: &[Change],
-) -> Result<ExpiringMap, Memory>
+pub fn replay(alloc: Global, base: &ExpiringMap, changes: &[Change]) -> Result<ExpiringMap, Memory>
     requires { AreSound changes.now }
     ensures { IfOk result (λ map. map ≡ replay base.now changes.now) }
 {
