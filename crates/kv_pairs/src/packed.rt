@@ -1,9 +1,9 @@
 // Writing items, one by one or all those of a map.
-ghost use Rattle.std.specs.Prelude.{◌≡◌, ◌≢◌, ℕ, ◌+◌, ◌^◌, ◌<◌, ◌≤◌, ◌++◌, ◌==◌, List, [], OnOk, OnErr, length, take, vec_len, if◌then◌else◌};
+ghost use Rattle.std.specs.Prelude.{◌≡◌, ◌≢◌, ℕ, ◌+◌, ◌^◌, ◌<◌, ◌≤◌, ◌++◌, ◌==◌, Bool, List, [], Some, OnOk, OnErr, length, take, vec_len, if◌then◌else◌};
 ghost use Rattle.expiring_map.specs.ValueUntil.{ValueUntil};
-ghost use Rattle.expiring_map.specs.Map.{value_until};
+ghost use Rattle.expiring_map.specs.Map.{Map, value_until};
 ghost use Rattle.kv_pairs.specs.Lengths.{shortest};
-ghost use Rattle.kv_pairs.specs.Mapped.{put_item, remove_item, written_item, packed, packed_size, IsSmall};
+ghost use Rattle.kv_pairs.specs.Mapped.{put_item, remove_item, written_item, packed, packed_size, map_in, IsSmall, IsPackable};
 
 use crate::length::{length_size, write_length};
 use expiring_map::{ExpiringMap, Memory};
@@ -124,4 +124,10 @@ fn write_map(flag: bool, map: &ExpiringMap, out: &mut Vec<u8>) -> Result<(), Mem
         append_item(flag, pair.key, pair.value, pair.expiry, out)?;
     }
     Ok(())
+}
+
+/// A packed map is read again: the items of its payload give that map.
+pub fn a_packed_map_is_read_again()
+    ensures { (flag : Bool) (m : Map) → IsPackable flag m → map_in flag (packed flag m) ≡ Some m }
+{
 }
