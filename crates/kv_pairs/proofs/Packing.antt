@@ -17,14 +17,14 @@ use Rattle.expiring_map.proofs.Refold.{order, Entry, with_entry, same_keys, not_
 use Rattle.kv_pairs.specs.Lengths.{Spells, shortest, shortest_in}
 use Rattle.kv_pairs.specs.Grammar.{Units, none, one, begun}
 use Rattle.kv_pairs.specs.Reading.{items_of, read_payload, greedy_items}
-use Rattle.kv_pairs.specs.Mapped.{stored, unstored, with_item, with_items, has_room_for_expiry, map_of, greedy_map, length_prefixed, put_item, heading, packed}
+use Rattle.kv_pairs.specs.Mapped.{stored, unstored, with_item, with_items, has_room_for_expiry, map_of, greedy_map, length_prefixed, put_item, heading, packed, map_in, IsPackablePair, IsPackable}
 use Rattle.kv_pairs.specs.Growth.{largest}
 use Rattle.kv_pairs.specs.declared.item.Item.{Item}
 use Rattle.kv_pairs.proofs.ReadsGrammar.{payload_read}
 use Rattle.kv_pairs.proofs.GrammarRead.{Small}
 use Rattle.kv_pairs.proofs.Appending.{shortest_spells}
 use Rattle.kv_pairs.proofs.Mapping.{unstored-stored}
-use Rattle.kv_pairs.proofs.GoodItems.{Small-take, Small-drop, Small-append, Small-at, GoodItem, AllFit, read_good, fit_filtered, fit_all}
+use Rattle.kv_pairs.proofs.GoodItems.{Small-take, Small-drop, Small-append, Small-at, Small-from, GoodItem, AllFit, read_good, fit_filtered, fit_all}
 
 -- a pair that an item can hold
 pub record Packs (flag : Bool) (key : List ℕ) (d : ValueUntil) : Type 0 where
@@ -275,6 +275,23 @@ pub packed_map : (flag : Bool) (m : Map) → Packable flag m → option_and_then
 packed_map flag m p =
     let a = all_pack flag m p in
     rw (packed_items flag m p) (rw (items_have flag (fin.entries m) a) (ap Some (items_again flag (fin.entries m) fin.empty a ∙ refolded m)))
+
+-- the same in the words of the definitions
+packs_of : (flag : Bool) (key : List ℕ) (d : ValueUntil) → IsPackablePair flag key d → Packs flag key d
+packs_of flag key d p =
+    record {
+      key_some = p.key_some;
+      key_short = omega (arith, p.key_short);
+      key_small = Small-from key p.key_bytes;
+      value_some = p.value_some;
+      value_short = omega (arith, p.value_short);
+      value_small = Small-from d.value p.value_bytes;
+      expiry_small = p.expiry_small;
+      no_expiry = p.no_expiry;
+    }
+
+pub read_again : (flag : Bool) (m : Map) → IsPackable flag m → map_in flag (packed flag m) ≡ Some m
+read_again flag m p = packed_map flag m (λ key d e. packs_of flag key d (p key d e))
 
 -- payloads are bytes
 shortest_small : (k n : ℕ) → Small (shortest_in k n)

@@ -1,4 +1,4 @@
-use Rattle.std.specs.Prelude.{ℕ, ◌+◌, ◌-◌, ◌^◌, ◌<◌, ◌≤◌, All, Bool, List, [], ◌∷◌, ◌++◌, Option, Some, None, length, take, drop, fold, option_and_then, option_map, filter, flat_map, nat_lt, not, ◌&&◌, ◌||◌, ◌==◌, if◌then◌else◌}
+use Rattle.std.specs.Prelude.{◌≡◌, ℕ, ◌+◌, ◌-◌, ◌^◌, ◌<◌, ◌≤◌, All, Bool, false, List, [], ◌∷◌, ◌++◌, Option, Some, None, length, take, drop, fold, option_and_then, option_map, filter, flat_map, nat_lt, not, ◌&&◌, ◌||◌, ◌==◌, if◌then◌else◌}
 use Rattle.std.specs.List.{list_all}
 use Rattle.std.specs.Int.{to_le_bytes, from_le_bytes, w32}
 use Rattle.std.specs.FinMap as fin
@@ -88,3 +88,18 @@ IsShort p = (length p.key ≤ 2 ^ 27) × (length p.value ≤ 2 ^ 27)
 pub record IsSmall (m : Map) : Type 0 where
   pub short : All IsShort (pairs_of m)
   pub few : fin.len m < 2 ^ 32
+
+-- a pair that can be packed and read again: key and value aren't empty, and without the flag it has no expiry
+pub record IsPackablePair (flag : Bool) (key : List ℕ) (d : ValueUntil) : Type 0 where
+  pub key_some : 0 < length key
+  pub key_short : length key ≤ 2 ^ 26
+  pub key_bytes : All (λ b. b < 256) key
+  pub value_some : 0 < length d.value
+  pub value_short : length d.value ≤ 2 ^ 26
+  pub value_bytes : All (λ b. b < 256) d.value
+  pub expiry_small : d.expiry < 2 ^ 32
+  pub no_expiry : flag ≡ false → d.expiry ≡ 0
+
+-- the map has such pairs alone
+abbrev pub IsPackable : Bool → Map → Type 0
+IsPackable flag m = (key : List ℕ) (d : ValueUntil) → fin.get m key ≡ Some d → IsPackablePair flag key d

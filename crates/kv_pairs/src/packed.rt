@@ -1,15 +1,15 @@
 // Writing items, one by one or all those of a map.
-ghost use Rattle.std.specs.Prelude.{◌≡◌, ◌≢◌, ℕ, ◌+◌, ◌^◌, ◌<◌, ◌≤◌, ◌++◌, ◌==◌, List, [], OnOk, OnErr, length, take, vec_len, if◌then◌else◌};
+ghost use Rattle.std.specs.Prelude.{◌≡◌, ◌≢◌, ℕ, ◌+◌, ◌^◌, ◌<◌, ◌≤◌, ◌++◌, ◌==◌, Bool, List, [], Some, OnOk, OnErr, length, take, vec_len, if◌then◌else◌};
 ghost use Rattle.expiring_map.specs.ValueUntil.{ValueUntil};
-ghost use Rattle.expiring_map.specs.Map.{value_until};
+ghost use Rattle.expiring_map.specs.Map.{Map, value_until};
 ghost use Rattle.kv_pairs.specs.Lengths.{shortest};
-ghost use Rattle.kv_pairs.specs.Mapped.{put_item, remove_item, written_item, packed, IsSmall};
+ghost use Rattle.kv_pairs.specs.Mapped.{put_item, remove_item, written_item, packed, packed_size, map_in, IsSmall, IsPackable};
 
 use crate::length::{length_size, write_length};
 use expiring_map::{ExpiringMap, Memory};
 
-/// Where a payload begins: 0x00FFFFFF as a length, which counts for nothing.
-pub const HEADING: [u8; 4] = [0xff, 0xff, 0xff, 0x07];
+// Where a payload begins: 0x00FFFFFF as a length, which counts for nothing.
+const HEADING: [u8; 4] = [0xff, 0xff, 0xff, 0x07];
 
 /// The bytes of an item with a key and a value of so many bytes. No value is a removal.
 pub fn item_size(flag: bool, key: u32, value: u32) -> u64
@@ -83,4 +83,51 @@ fn write_item(
         out.extend_from_slice(&expiry.to_le_bytes())?;
     }
     Ok(())
+}
+
+/// The bytes that `pack` appends.
+pub fn packed_size(flag: bool, map: &ExpiringMap) -> u64
+    requires { IsSmall map.now }
+    ensures { result ≡ packed_size flag map.now }
+{
+    let mut size = HEADING.len() as u64;
+    for pair in map.iter() {
+        size += item_size(flag, pair.key.len() as u32, pair.value.len() as u32);
+    }
+    size
+}
+
+/// Appends the payload of a map: the heading, and an item for each pair in byte order of keys, those that
+/// have expired too. After `Memory` nothing was appended.
+pub fn pack(flag: bool, map: &ExpiringMap, out: &mut Vec<u8>) -> Result<(), Memory>
+    requires { IsSmall map.now }
+    ensures ok { OnOk result (out.new.items ≡ out.old.items ++ packed flag map.now) }
+    ensures err { OnErr result (out.new.items ≡ out.old.items) }
+{
+    let before = out.len();
+    let written = write_map(flag, map, out);
+    if written.is_err() {
+        out.truncate(before);
+    }
+    written
+}
+
+// Appends the payload of a map. After `Memory` a part of it may stand at the end.
+fn write_map(flag: bool, map: &ExpiringMap, out: &mut Vec<u8>) -> Result<(), Memory>
+    requires { IsSmall map.now }
+    ensures ok { OnOk result (out.new.items ≡ out.old.items ++ packed flag map.now) }
+    ensures err { OnErr result (take (length out.old.items) out.new.items ≡ out.old.items) }
+{
+    out.reserve(packed_size(flag, map) as usize)?;
+    out.extend_from_slice(&HEADING)?;
+    for pair in map.iter() {
+        append_item(flag, pair.key, pair.value, pair.expiry, out)?;
+    }
+    Ok(())
+}
+
+/// A packed map is read again: the items of its payload give that map.
+pub fn a_packed_map_is_read_again()
+    ensures { (flag : Bool) (m : Map) → IsPackable flag m → map_in flag (packed flag m) ≡ Some m }
+{
 }
