@@ -1,14 +1,14 @@
 -- What an opener holds follows from what it counts, move by move.
-use Rattle.std.proofs.Common.{◌≡◌, ◌≢◌, ℕ, ◌+◌, ◌-◌, ◌<◌, ◌≤◌, Bool, true, false, cond, List, [], ◌∷◌, refl, ap, sym, ◌∙◌, subst, arith}
-use Rattle.std.specs.Prelude.{Option, Some, None, ◌||◌, ◌&&◌, ◌==◌, nat_lt, nat_eq, not, if◌then◌else◌}
+use Rattle.std.proofs.Common.{◌≡◌, ◌≢◌, ℕ, ◌<◌, Bool, true, false, cond, List, [], ◌∷◌, refl, ap, sym, ◌∙◌, subst, arith}
+use Rattle.std.specs.Prelude.{Option, Some, None, ◌||◌, ◌&&◌, ◌==◌, nat_lt, not, if◌then◌else◌}
 use Rattle.std.specs.Option.{option_map_or}
 use Rattle.std.specs.Ordering.{nat_cmp}
 use Rattle.std.specs.Cmp.{nat_cmp_total}
 use Rattle.std.specs.FinSet as set
 use Rattle.std.proofs.lemmas.Bool.Decides.{nat_tests}
-use Rattle.lock_rules.specs.Locks.{Locks, unlocked, holds, holds_exclusive, MayTake, with_lock, without_holder}
-use Rattle.lock_rules.specs.Counts.{Counts, none_counted, counted_up, counted_down, ask_of, leave_of}
-use Rattle.lock_rules.specs.Moves.{Standing, Move, Asks, Takes, Leaves, Dies, OtherTakes, OtherGoes, after_ask, after_leave, after_wait, after_move, MayAsk, MayWait, MayMove, LeadsTo, begun, HoldsAsCounted}
+use Rattle.lock_rules.specs.Locks.{Locks, holds_exclusive, MayTake, with_lock, without_holder}
+use Rattle.lock_rules.specs.Counts.{Counts, ask_of, leave_of}
+use Rattle.lock_rules.specs.Moves.{Standing, at_rest, Move, Asks, Takes, Leaves, Dies, OtherTakes, OtherGoes, after_ask, after_leave, after_wait, after_move, MayAsk, MayWait, MayMove, LeadsTo, begun, HoldsAsCounted}
 use Rattle.lock_rules.specs.declared.counts.Ask.{Ask}
 use Rattle.lock_rules.specs.declared.counts.Ask.TheVariants as ask
 use Rattle.lock_rules.specs.declared.counts.Leave.{Leave}
@@ -79,13 +79,10 @@ Tied who counts locks (Some kind) = IsHeld locks who false false × (counts.excl
 abbrev pub IsTied : ℕ → Standing → Type 0
 IsTied who s = Tied who s.counts s.locks s.waits
 
-abbrev rests : Counts → Locks → Standing
-rests counts locks = record { counts = counts; locks = locks; waits = None }
-
 held_as : (locks : Locks) (who : ℕ) (x s x' s' : Bool) → x ≡ x' → s ≡ s' → IsHeld locks who x s → IsHeld locks who x' s'
 held_as locks who x s x' s' e f held = (held.0 ∙ e, held.1 ∙ f)
 
-pub asked : (who : ℕ) (counts : Counts) (locks : Locks) (kind : LockKind) (a : Ask) → ask_of counts kind ≡ a → MayAsk who (rests counts locks) kind a → Tied who counts locks None → IsTied who (after_ask who (rests counts locks) kind a)
+pub asked : (who : ℕ) (counts : Counts) (locks : Locks) (kind : LockKind) (a : Ask) → ask_of counts kind ≡ a → MayAsk who (at_rest counts locks) kind a → Tied who counts locks None → IsTied who (after_ask who (at_rest counts locks) kind a)
 asked who counts locks Shared ask.Counted e may held = (held.0, held.1 ∙ grind (arith, nat_tests, e))
 asked who counts locks Exclusive ask.Counted e may held = (held.0 ∙ grind (arith, nat_tests, e), held.1 ∙ grind (arith, nat_tests, e))
 asked who counts locks Shared ask.Take e may held = held_as _ who _ _ _ _ (grind (arith, nat_tests, e)) (grind (arith, nat_tests, e)) (took_shared locks who may.1)
@@ -94,7 +91,7 @@ asked who counts locks Shared ask.GiveUpThenTake e may held = absurd (grind (ari
 asked who counts locks Exclusive ask.GiveUpThenTake e may held = (gave_up locks who, grind (arith, nat_tests, e), grind (arith, nat_tests, e))
 asked who counts locks kind ask.TooDeep e may held = held
 
-pub left : (who : ℕ) (counts : Counts) (locks : Locks) (kind : LockKind) (a : Leave) → leave_of counts kind ≡ a → Tied who counts locks None → IsTied who (after_leave who (rests counts locks) kind a)
+pub left : (who : ℕ) (counts : Counts) (locks : Locks) (kind : LockKind) (a : Leave) → leave_of counts kind ≡ a → Tied who counts locks None → IsTied who (after_leave who (at_rest counts locks) kind a)
 left who counts locks Shared leave.Counted e held = (held.0, held.1 ∙ grind (arith, nat_tests, e))
 left who counts locks Exclusive leave.Counted e held = (held.0 ∙ grind (arith, nat_tests, e), held.1 ∙ grind (arith, nat_tests, e))
 left who counts locks Shared leave.GiveUp e held = held_as _ who _ _ _ _ (grind (arith, nat_tests, e)) (grind (arith, nat_tests, e)) (gave_up locks who)
@@ -111,7 +108,7 @@ waited who counts locks (Some Exclusive) may tied = held_as (with_lock locks who
 asks : (who : ℕ) (counts : Counts) (locks : Locks) (waits : Option LockKind) (kind : LockKind) → waits ≡ None → MayAsk who (record { counts = counts; locks = locks; waits = waits }) kind (ask_of counts kind) → Tied who counts locks waits → IsTied who (after_ask who (record { counts = counts; locks = locks; waits = waits }) kind (ask_of counts kind))
 asks who counts locks None kind e may tied = asked who counts locks kind (ask_of counts kind) refl (same_ask (ask_of counts kind) may) tied
   where
-    same_ask : (a : Ask) → MayAsk who (record { counts = counts; locks = locks; waits = None }) kind a → MayAsk who (rests counts locks) kind a
+    same_ask : (a : Ask) → MayAsk who (record { counts = counts; locks = locks; waits = None }) kind a → MayAsk who (at_rest counts locks) kind a
     same_ask a may = may
 asks who counts locks (Some other) kind e may tied = absurd cc
 

@@ -1,5 +1,5 @@
 -- How often an opener asked for each kind of lock.
-use Rattle.std.specs.Prelude.{ℕ, ◌+◌, ◌-◌, ◌≤◌, ◌||◌, ◌&&◌, ◌==◌, nat_lt, if◌then◌else◌}
+use Rattle.std.specs.Prelude.{ℕ, ◌+◌, ◌-◌, ◌≤◌, ◌||◌, ◌==◌, nat_lt, if◌then◌else◌}
 use Rattle.lock_rules.specs.declared.counts.TheConstants.{MOST_HOLDS}
 use Rattle.lock_rules.specs.declared.counts.Ask.{Ask}
 use Rattle.lock_rules.specs.declared.counts.Ask.TheVariants as ask

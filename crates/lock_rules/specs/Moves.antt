@@ -1,5 +1,5 @@
 -- One opener's holds beside the table, move by move, with the moves of others in between.
-use Rattle.std.specs.Prelude.{◌≡◌, ◌≢◌, ℕ, ◌||◌, ◌&&◌, ◌==◌, Bool, true, false, nat_lt, List, [], ◌∷◌, Option, Some, None}
+use Rattle.std.specs.Prelude.{◌≡◌, ◌≢◌, ℕ, ◌&&◌, ◌==◌, false, nat_lt, List, [], ◌∷◌, Option, Some, None}
 use Rattle.std.specs.FinSet as set
 use Rattle.lock_rules.specs.Locks.{Locks, unlocked, holds, holds_exclusive, MayTake, with_lock, without_holder}
 use Rattle.lock_rules.specs.Counts.{Counts, none_counted, counted_up, counted_down, ask_of, leave_of}
@@ -15,6 +15,10 @@ pub record Standing : Type 0 where
   pub counts : Counts
   pub locks : Locks
   pub waits : Option LockKind
+
+-- an opener that waits for no lock
+abbrev pub at_rest : Counts → Locks → Standing
+at_rest counts locks = record { counts = counts; locks = locks; waits = None }
 
 -- what may happen: the opener asks for a hold, takes the lock that it waits for, leaves a hold or dies; another opener takes the lock, or gives it up or dies
 pub data Move : Type 0 where
@@ -81,7 +85,7 @@ LeadsTo who s (move ∷ moves) t = MayMove who s move × LeadsTo who (after_move
 
 -- nobody holds the lock, and nothing is counted
 abbrev pub begun : Standing
-begun = record { counts = none_counted; locks = unlocked; waits = None }
+begun = at_rest none_counted unlocked
 
 -- An opener holds exclusive exactly where its exclusive count is positive, and shared exactly where only its shared count is.
 -- While it waits for a lock, it holds nothing.

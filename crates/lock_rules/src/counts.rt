@@ -2,6 +2,7 @@
 ghost use Rattle.std.specs.Prelude.{◌≡◌, ◌<◌};
 ghost use Rattle.lock_rules.specs.declared.counts.TheConstants.{MOST_HOLDS};
 ghost use Rattle.lock_rules.specs.Counts.{Counts, IsWithin, none_counted, count_of, counted_up, counted_down, ask_of, left_of, leave_of};
+ghost use Rattle.lock_rules.specs.Steps.{AsksAs, TookAs, LeavesAs};
 
 use crate::table::LockKind;
 use std::marker::Model;
@@ -82,6 +83,7 @@ impl LockCounts {
     /// What is to be done for one more hold of this kind. Nothing is counted yet.
     pub fn ask(&self, kind: LockKind) -> Ask
         ensures value { result ≡ ask_of self.now kind }
+        ensures step { AsksAs self.now kind result }
         ensures within { IsWithin self.now }
     {
         if self.count(kind) == MOST_HOLDS {
@@ -99,6 +101,7 @@ impl LockCounts {
     pub fn took(&mut self, kind: LockKind)
         requires { count_of self.old kind < MOST_HOLDS }
         ensures after { self.new ≡ counted_up self.old kind }
+        ensures step { TookAs self.old kind self.new }
         ensures within { IsWithin self.new }
     {
         match kind {
@@ -111,6 +114,7 @@ impl LockCounts {
     pub fn leave(&mut self, kind: LockKind) -> Leave
         ensures value { result ≡ leave_of self.old kind }
         ensures after { self.new ≡ counted_down self.old kind }
+        ensures step { LeavesAs self.old kind result self.new }
         ensures within { IsWithin self.new }
     {
         if self.count(kind) == 0 {
@@ -133,5 +137,39 @@ impl LockCounts {
             LockKind::Exclusive if self.shared > 0 => Leave::BackToShared,
             _ => Leave::GiveUp,
         }
+    }
+}
+
+#[cfg(test)]
+mod tests {
+    use super::*;
+
+    #[test]
+    fn an_upgrade_gives_up_first_and_its_end_goes_back_to_shared(rt: HostRuntime) {
+        let mut counts = LockCounts::new();
+        assert_eq!(rt; counts.ask(LockKind::Shared), Ask::Take);
+        counts.took(LockKind::Shared);
+        assert_eq!(rt; counts.ask(LockKind::Shared), Ask::Counted);
+        assert_eq!(rt; counts.ask(LockKind::Exclusive), Ask::GiveUpThenTake);
+        counts.took(LockKind::Exclusive);
+        assert_eq!(rt; counts.ask(LockKind::Exclusive), Ask::Counted);
+        assert_eq!(rt; counts.count(LockKind::Exclusive), 1);
+        assert_eq!(rt; counts.leave(LockKind::Exclusive), Leave::BackToShared);
+        assert_eq!(rt; counts.leave(LockKind::Shared), Leave::GiveUp);
+        assert_eq!(rt; counts.leave(LockKind::Shared), Leave::NotHeld);
+    }
+
+    #[test]
+    fn the_1024th_hold_is_the_last(rt: HostRuntime) {
+        let mut counts = LockCounts::new();
+        for _ in 0..2000u32 {
+            if counts.ask(LockKind::Exclusive) != Ask::TooDeep {
+                counts.took(LockKind::Exclusive);
+            }
+        }
+        assert_eq!(rt; counts.count(LockKind::Exclusive), 1024);
+        assert_eq!(rt; counts.ask(LockKind::Shared), Ask::Counted);
+        assert_eq!(rt; counts.leave(LockKind::Exclusive), Leave::Counted);
+        assert_eq!(rt; counts.count(LockKind::Exclusive), 1023);
     }
 }

@@ -6,5 +6,4 @@ ghost use Rattle.lock_rules.specs.Moves.{CountsTellTheLock};
 /// it holds nothing.
 pub fn an_opener_holds_what_it_counts()
     ensures { CountsTellTheLock }
-{
-}
+{}
