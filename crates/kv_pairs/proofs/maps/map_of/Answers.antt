@@ -1,4 +1,4 @@
-use Rattle.std.proofs.Common.{◌≡◌, ap, ◌∙◌}
+use Rattle.std.proofs.Common.{ap, ◌∙◌}
 use Rattle.kv_pairs.specs.Mapped.{with_items}
 use Rattle.kv_pairs.proofs.Turns.{the_map}
 use Rattle.kv_pairs.proofs.maps.map_of.Goals as goal
