@@ -1,5 +1,5 @@
 // The map from keys to values that expire.
-ghost use Rattle.std.specs.Prelude.{◌≡◌, ◌≢◌, ◌+◌, ◌==◌, [], IfOk, OnOk, OnErr};
+ghost use Rattle.std.specs.Prelude.{◌≡◌, ◌≢◌, ◌+◌, ◌==◌, [], IfOk, OnOk, OnErr, length};
 ghost use Rattle.std.specs.Option.{option_copied};
 ghost use Rattle.std.specs.FinMap as fin;
 ghost use Rattle.expiring_map.specs.Map.{with_pair, pairs_of, IsFilled};
@@ -159,6 +159,7 @@ impl ExpiringMap {
     /// The number of pairs, those that have expired too.
     pub fn len(&self) -> usize
         ensures count { result ≡ fin.len self.now }
+        ensures pairs { result ≡ length (pairs_of self.now) }
         ensures filled { IsFilled self.now }
     {
         self.kept.len()
@@ -172,5 +173,95 @@ impl ExpiringMap {
         Iter {
             rest: self.kept.iter(),
         }
+    }
+}
+
+#[cfg(test)]
+mod tests {
+    use super::*;
+    use std::test::Fail;
+
+    // Keys, values and expiries, in byte order of keys.
+    const ROWS: [(&[u8], &[u8], u32); 3] = [
+        (&[0x61], &[1, 2], 0),
+        (&[0x6b], &[0x03, 0x61, 0x62, 0x63], 110),
+        (&[0x6b, 0x00], &[7], 90),
+    ];
+
+    fn put_row(
+        alloc: Global,
+        map: &mut ExpiringMap,
+        key: &[u8],
+        value: &[u8],
+        expiry: u32,
+    ) -> Result<(), Memory> {
+        if key.is_empty() || value.is_empty() {
+            return Ok(());
+        }
+        let key = Bytes::copy_of(alloc, key)?;
+        let value = Bytes::copy_of(alloc, value)?;
+        map.put(Pair { key, value, expiry })
+    }
+
+    fn map_of_rows(alloc: Global) -> Result<ExpiringMap, Memory> {
+        let mut map = ExpiringMap::new(alloc);
+        for (key, value, expiry) in ROWS.iter().rev() {
+            put_row(alloc, &mut map, key, value, *expiry)?;
+        }
+        Ok(map)
+    }
+
+    #[test]
+    fn a_pair_lives_before_its_expiry_alone(rt: HostRuntime) -> Result<(), Fail> {
+        let map = map_of_rows(rt.alloc())?;
+        assert_eq!(rt;
+            map.value_at(&[0x6b], 109),
+            Some([0x03, 0x61, 0x62, 0x63].as_slice())
+        );
+        assert_eq!(rt; map.value_at(&[0x6b], 110), None);
+        assert_eq!(rt;
+            map.value_at(&[0x61], 4_294_967_295),
+            Some([1, 2].as_slice())
+        );
+        assert_eq!(rt; map.value_at(&[0x62], 0), None);
+        for (now, count) in [(0, 3), (89, 3), (90, 2), (109, 2), (110, 1)] {
+            assert_eq!(rt; map.count_at(now), count, "at {now}");
+            assert_eq!(rt; map.keys_at(now)?.as_slice().len(), count, "at {now}");
+        }
+        Ok(())
+    }
+
+    #[test]
+    fn pairs_stand_in_byte_order(rt: HostRuntime) -> Result<(), Fail> {
+        let map = map_of_rows(rt.alloc())?;
+        let copy = map.copy()?;
+        let pairs = map.pairs()?;
+        assert_eq!(rt; pairs.as_slice().len(), 3);
+        for ((lent, pair), row) in copy.iter().zip(pairs.as_slice()).zip(&ROWS) {
+            assert_eq!(rt; lent.key, row.0);
+            assert_eq!(rt; pair.key.as_slice(), row.0);
+            assert_eq!(rt; lent.value, row.1);
+            assert_eq!(rt; pair.value.as_slice(), row.1);
+            assert_eq!(rt; lent.expiry, row.2);
+            assert_eq!(rt; pair.expiry, row.2);
+        }
+        Ok(())
+    }
+
+    #[test]
+    fn a_map_loses_what_is_taken_out_or_has_expired(rt: HostRuntime) -> Result<(), Fail> {
+        let alloc = rt.alloc();
+        let mut map = map_of_rows(alloc)?;
+        put_row(alloc, &mut map, &[0x61], &[9], 100)?;
+        assert_eq!(rt; map.value_at(&[0x61], 99), Some([9].as_slice()));
+        assert_eq!(rt; map.len(), 3);
+        assert_eq!(rt; map.drop_expired(100), 2);
+        assert_eq!(rt; map.len(), 1);
+        map.set_expiry(50);
+        assert_eq!(rt; map.value_at(&[0x6b], 50), None);
+        assert!(rt; !map.take_out(&[0x61]));
+        assert!(rt; map.take_out(&[0x6b]));
+        assert!(rt; map.is_empty());
+        Ok(())
     }
 }
