@@ -1,5 +1,5 @@
 // Reading a payload: a function for each part of its grammar.
-ghost use Rattle.std.specs.Prelude.{◌≡◌, ℕ, ◌+◌, ◌<◌, ◌≤◌, IfOk, IfErr, MatchOption, List, Some, None, [], drop, take, length};
+ghost use Rattle.std.specs.Prelude.{◌≡◌, ◌+◌, ◌<◌, ◌≤◌, IfOk, IfErr, MatchOption, List, Some, None, [], drop, length};
 ghost use Rattle.kv_pairs.specs.Reading.{text_at, unit_at, units_at, read_payload, items_of, greedy_items, greedy_size, run_size};
 ghost use Rattle.kv_pairs.specs.Grammar.{IsPayloadOf, IsGreedy, Units, IsLongestRun};
 ghost use Rattle.kv_pairs.specs.declared.item.Item.{Item};
@@ -8,7 +8,7 @@ ghost use Rattle.kv_pairs.specs.Found.{items_found, HaveKeys, IfNotItems};
 use crate::item::{Item, Items};
 use crate::length::read_length;
 use expiring_map::{Bytes, Memory};
-use std::alloc::{AllocError, AllocFailed, Global};
+use std::alloc::Global;
 use thiserror::Error;
 
 /// Why a payload gave no items.
@@ -83,7 +83,8 @@ pub fn decode_all(alloc: Global, payload: &[u8]) -> Result<Items, ItemsStop>
     ensures ok { IfOk result (λ items. items_of payload.now ≡ Some items) }
     ensures grammar { IfOk result (λ items. IsPayloadOf payload.now items) }
     ensures keys { IfOk result HaveKeys }
-    ensures none { IfErr result (λ e. IfNotItems e (λ at. (items_of payload.now ≡ None) × ((items : List Item) → IsPayloadOf payload.now items → ⊥))) }
+    ensures none { IfErr result (λ e. IfNotItems e (λ at. items_of payload.now ≡ None)) }
+    ensures outside { IfErr result (λ e. IfNotItems e (λ at. (items : List Item) → IsPayloadOf payload.now items → ⊥)) }
     ensures at { IfErr result (λ e. IfNotItems e (λ at. at ≡ greedy_size payload.now)) }
     ensures greedy { IfErr result (λ e. IfNotItems e (λ at. IsGreedy payload.now at (greedy_items payload.now))) }
 {
@@ -106,7 +107,7 @@ pub fn decode_from(alloc: Global, payload: &[u8], at: usize) -> Result<Items, It
     ensures ok { IfOk result (λ items. units_at (drop at payload.now) ≡ (items, [])) }
     ensures grammar { IfOk result (λ items. Units (drop at payload.now) items) }
     ensures keys { IfOk result HaveKeys }
-    ensures none { IfErr result (λ e. IfNotItems e (λ end. (items : List Item) → Units (drop at payload.now) items → ⊥)) }
+    ensures outside { IfErr result (λ e. IfNotItems e (λ end. (items : List Item) → Units (drop at payload.now) items → ⊥)) }
     ensures at { IfErr result (λ e. IfNotItems e (λ end. end ≡ at + run_size (drop at payload.now))) }
     ensures longest { IfErr result (λ e. IfNotItems e (λ end.
         IsLongestRun (drop at payload.now) (run_size (drop at payload.now)) (units_at (drop at payload.now)).0)) }

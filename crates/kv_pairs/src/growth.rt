@@ -1,5 +1,5 @@
 // How far a data file grows for a rewrite.
-ghost use Rattle.std.specs.Prelude.{◌≡◌, ℕ, ◌+◌, ◌*◌, ◌^◌, ◌<◌, ◌≤◌, ◌↔◌, IsNone};
+ghost use Rattle.std.specs.Prelude.{◌≡◌, ◌+◌, ◌*◌, ◌^◌, ◌<◌, ◌≤◌, ◌↔◌, IsNone};
 ghost use Rattle.kv_pairs.specs.Growth.{grown_size, grown_to, IsFileSize};
 
 // The greatest size of a data file.

@@ -1,5 +1,5 @@
 // The spelling of a length: seven bits a byte, the lowest first, the high bit on each byte but the last.
-ghost use Rattle.std.specs.Prelude.{◌≡◌, ℕ, ◌*◌, ◌^◌, ◌<◌, ◌≤◌, ◌↔◌, ◌++◌, IfOk, OnOk, OnErr, IsTrue, IsErrOf, Some, drop, take, length, vec_len, MatchResult, None};
+ghost use Rattle.std.specs.Prelude.{◌≡◌, ◌^◌, ◌<◌, ◌≤◌, ◌↔◌, ◌++◌, IfOk, OnOk, OnErr, IsTrue, IsErrOf, Some, drop, take, length, None};
 ghost use Rattle.kv_pairs.specs.Lengths.{Spells, shortest};
 ghost use Rattle.kv_pairs.specs.Reading.{length_at, number_in};
 ghost use Rattle.kv_pairs.specs.Faults.{is_cut, is_too_long, all_high};
@@ -20,7 +20,8 @@ pub enum LengthFault {
 #[tactic(auto, unfolding(crate::specs::Reading::length_at))]
 pub fn read_length(bytes: &[u8]) -> Result<(u32, usize), LengthFault>
     ensures ok { IfOk result (λ r. length_at bytes.now ≡ Some (r.0, drop r.1 bytes.now)) }
-    ensures spelled { IfOk result (λ r. (r.1 ≤ length bytes.now) × Spells (take r.1 bytes.now) r.0) }
+    ensures size { IfOk result (λ r. r.1 ≤ length bytes.now) }
+    ensures spelled { IfOk result (λ r. Spells (take r.1 bytes.now) r.0) }
     ensures none { OnErr result (length_at bytes.now ≡ None) }
     ensures cut { IsErrOf result LengthFault.Cut ↔ IsTrue (is_cut bytes.now) }
     ensures long { IsErrOf result LengthFault.TooLong ↔ IsTrue (is_too_long bytes.now) }

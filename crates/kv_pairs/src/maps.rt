@@ -1,5 +1,5 @@
 // The map of some items: each key has its last value, and with the flag a value ends with its expiry.
-ghost use Rattle.std.specs.Prelude.{◌≡◌, ◌≢◌, ℕ, ◌<◌, Bool, true, List, is_some, Some, None, [], IfOk, IfErr, OnOk, OnErr, length, filter, take};
+ghost use Rattle.std.specs.Prelude.{◌≡◌, ◌≢◌, ℕ, ◌<◌, true, is_some, Some, None, [], IfOk, IfErr, OnOk, OnErr, length, filter, take};
 ghost use Rattle.std.specs.FinMap as fin;
 ghost use Rattle.expiring_map.specs.Map.{value_until};
 ghost use Rattle.kv_pairs.specs.Mapped.{map_of, with_item, with_items, has_room_for_expiry, first_without_room, map_in, units_fit, unstored};
@@ -61,7 +61,8 @@ pub fn map_greedy(alloc: Global, flag: bool, items: Items) -> Result<ExpiringMap
 /// Brings these items into a map. After `NoMap` the map has the items before the refused one.
 pub fn extend(flag: bool, map: &mut ExpiringMap, items: Items) -> Result<(), MapStop>
     requires { HaveKeys items }
-    ensures ok { OnOk result ((map.new ≡ with_items flag map.old items) × (first_without_room flag items ≡ None)) }
+    ensures ok { OnOk result (map.new ≡ with_items flag map.old items) }
+    ensures all { OnOk result (first_without_room flag items ≡ None) }
     ensures none { IfErr result (λ e. IfNoMap e (λ item. map_of flag items ≡ None)) }
     ensures at { IfErr result (λ e. IfNoMap e (λ item. first_without_room flag items ≡ Some item)) }
     ensures before { IfErr result (λ e. IfNoMap e (λ item. map.new ≡ with_items flag map.old (take item items))) }

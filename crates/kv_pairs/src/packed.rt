@@ -1,9 +1,9 @@
 // Writing items, one by one or all those of a map.
-ghost use Rattle.std.specs.Prelude.{◌≡◌, ◌≢◌, ℕ, ◌+◌, ◌^◌, ◌<◌, ◌≤◌, ◌++◌, ◌==◌, Bool, List, [], Some, IfOk, OnOk, OnErr, length, take, vec_len, if◌then◌else◌};
+ghost use Rattle.std.specs.Prelude.{◌≡◌, ◌≢◌, ℕ, ◌+◌, ◌^◌, ◌<◌, ◌≤◌, ◌++◌, ◌==◌, Bool, List, [], Some, IfOk, OnOk, OnErr, length, take, if◌then◌else◌};
 ghost use Rattle.expiring_map.specs.ValueUntil.{ValueUntil};
 ghost use Rattle.expiring_map.specs.Map.{Map, value_until};
 ghost use Rattle.kv_pairs.specs.Lengths.{shortest};
-ghost use Rattle.kv_pairs.specs.Mapped.{put_item, remove_item, written_item, packed, packed_size, map_in, IsSmall, IsPackable};
+ghost use Rattle.kv_pairs.specs.Mapped.{written_item, packed, packed_size, map_in, IsSmall, IsPackable};
 
 use crate::length::{length_size, write_length};
 use expiring_map::{ExpiringMap, Memory};
