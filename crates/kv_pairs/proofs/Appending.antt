@@ -3,7 +3,7 @@ use Rattle.std.proofs.Common.{◌≡◌, ℕ, zero, suc, ◌+◌, ◌*◌, ◌/�
 use Rattle.std.specs.Prelude.{Some, nat_lt}
 use Rattle.std.proofs.lemmas.Bool.Decides.{nat_tests}
 use Rattle.kv_pairs.specs.Lengths.{IsVarint, varint_value, Spells, shortest, shortest_in}
-use Rattle.kv_pairs.specs.Grammar.{Units, none, gap, one, IsPayloadOf, empty, begun}
+use Rattle.kv_pairs.specs.Grammar.{Units, none, one, IsPayloadOf, empty, begun}
 use Rattle.kv_pairs.specs.Reading.{items_of}
 use Rattle.kv_pairs.specs.Mapped.{length_prefixed}
 use Rattle.kv_pairs.specs.declared.item.Item.{Item}

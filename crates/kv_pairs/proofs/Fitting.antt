@@ -1,5 +1,5 @@
 -- Whether each item has room for its expiry, unit by unit.
-use Rattle.std.proofs.Common.{◌≡◌, ℕ, Bool, true, false, cond, List, [], ◌∷◌, length, refl, sym, ap, ◌∙◌}
+use Rattle.std.proofs.Common.{◌≡◌, ℕ, Bool, true, false, cond, List, [], length, refl, ap, ◌∙◌}
 use Rattle.std.specs.Prelude.{Option, Some, None, is_some, option_and_then, ◌&&◌, ◌==◌}
 use Rattle.std.specs.List.{list_all}
 use Rattle.std.specs.FinMap as fin
@@ -8,7 +8,6 @@ use Rattle.std.proofs.lemmas.List.Folds.{list_all-append}
 use Rattle.kv_pairs.specs.Reading.{unit_at, units_at, length_at, read_payload}
 use Rattle.kv_pairs.specs.Mapped.{has_room_for_expiry, units_fit, with_items, map_in, map_of}
 use Rattle.kv_pairs.specs.declared.item.Item.{Item}
-use Rattle.kv_pairs.proofs.GrammarRead.{pair_of}
 use Rattle.kv_pairs.proofs.Stepping.{first_unit}
 
 by_unit : (flag : Bool) (bytes rest : List ℕ) (its : List Item) → unit_at bytes ≡ Some (its, rest) →

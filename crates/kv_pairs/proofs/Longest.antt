@@ -1,14 +1,14 @@
 -- What is read is the longest front that the grammar has.
-use Rattle.std.proofs.Common.{◌≡◌, ℕ, ◌-◌, ◌<◌, ◌≤◌, List, [], ◌∷◌, ◌++◌, length, take, drop, refl, sym, ap, ◌∙◌, arith, subst, append_assoc, append-nil, length-append, length-take, length-drop}
+use Rattle.std.proofs.Common.{◌≡◌, ℕ, ◌-◌, ◌<◌, ◌≤◌, List, [], ◌++◌, length, take, drop, refl, sym, ap, ◌∙◌, arith, subst, append_assoc, length-append, length-drop}
 use Rattle.std.specs.Prelude.{Option, Some, None}
 use Rattle.std.specs.Option.{option_map_or}
 use Rattle.std.proofs.lemmas.List.{take-append-drop, take_at}
 use Rattle.kv_pairs.specs.Lengths.{Spells}
-use Rattle.kv_pairs.specs.Grammar.{Units, none, IsPayloadOf, empty, begun, IsGreedy, IsLongestRun}
+use Rattle.kv_pairs.specs.Grammar.{Units, IsPayloadOf, empty, begun, IsGreedy, IsLongestRun}
 use Rattle.kv_pairs.specs.Reading.{length_at, units_in, units_at, run_size, read_payload, items_of, greedy_items, greedy_size}
 use Rattle.kv_pairs.specs.declared.item.Item.{Item}
 use Rattle.kv_pairs.proofs.ReadsGrammar.{length_read, units_read, payload_read}
-use Rattle.kv_pairs.proofs.GrammarRead.{Small, length_ok, AreUnits, units_are, pair_of, Small-right}
+use Rattle.kv_pairs.proofs.GrammarRead.{Small, length_ok, units_are, pair_of, Small-right}
 use Rattle.kv_pairs.proofs.Fronts.{units_front}
 use Rattle.kv_pairs.proofs.Stepping.{Less, length_less, left_within}
 
@@ -30,7 +30,7 @@ run_is_longest bytes s =
       within = omega arith;
       front = subst (λ z. Units z (units_at bytes).0) (sym (front_of bytes are.0 (units_at bytes).1 are.1)) are.2;
       longest = λ longer others h u.
-        omega (arith, length-drop longer bytes, units_past (take longer bytes) (drop longer bytes) others bytes (sym (take-append-drop longer bytes)) u, h);
+          omega (arith, length-drop longer bytes, units_past (take longer bytes) (drop longer bytes) others bytes (sym (take-append-drop longer bytes)) u, h);
     }
 
 -- no items stand where the units don't reach the end
@@ -83,7 +83,7 @@ greedy_is_longest bytes s =
       within = omega arith;
       front = subst (λ z. IsPayloadOf z (greedy_items bytes)) (sym (front_of bytes is.0 (read_payload bytes).1 is.1)) is.2;
       longest = λ longer others h u.
-        omega (arith, length-drop longer bytes, ap (λ z. length (read_payload z).1) (take-append-drop longer bytes), payload_past u (drop longer bytes), h);
+          omega (arith, length-drop longer bytes, ap (λ z. length (read_payload z).1) (take-append-drop longer bytes), payload_past u (drop longer bytes), h);
     }
 
 -- where reading ends before the payload does, it has no items

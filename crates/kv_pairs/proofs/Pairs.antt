@@ -1,15 +1,18 @@
 -- The items of some pairs.
-use Rattle.std.proofs.Common.{◌≡◌, ◌≢◌, ℕ, zero, suc, ◌+◌, ◌*◌, ◌<◌, ◌≤◌, Bool, true, false, cond, List, [], ◌∷◌, ◌++◌, length, map, refl, sym, ap, ◌∙◌, arith, append_assoc, append-nil, length-append}
+use Rattle.std.proofs.Common.{◌≡◌, ◌≢◌, ℕ, zero, suc, ◌+◌, ◌<◌, Bool, false, List, [], ◌∷◌, ◌++◌, length, map, get_or, refl, sym, ap, ◌∙◌, arith, append_assoc, append-nil, length-append}
 use Rattle.std.specs.Prelude.{flat_map, All, ◌==◌}
 use Rattle.std.specs.FinMap as fin
 use Rattle.std.proofs.lemmas.Bool.Decides.{nat_tests}
-use Rattle.expiring_map.specs.ValueUntil.{ValueUntil}
 use Rattle.expiring_map.specs.Map.{Map, value_until, pairs_of, HasContent, IsFilled}
 use Rattle.expiring_map.specs.Lent.{lent}
 use Rattle.expiring_map.specs.declared.pair.Pair.{Pair}
 use Rattle.expiring_map.specs.declared.iter.PairRef.{PairRef}
 use Rattle.expiring_map.proofs.Refold.{Entry}
-use Rattle.kv_pairs.specs.Mapped.{put_item, written_item, heading, packed}
+use Rattle.kv_pairs.specs.Mapped.{put_item, written_item, heading, packed, IsShort, IsSmall}
+use Rattle.kv_pairs.proofs.Packing.{Each, each_of}
+
+abbrev pub IsShortPair : Pair → Type 0
+IsShortPair p = IsShort p.key (value_until p.value p.expiry)
 
 -- the item of a pair
 abbrev pub pair_item : Bool → Pair → List ℕ
@@ -55,3 +58,12 @@ counted (e ∷ es) = ap suc (counted es)
 
 pub pair_count : (m : Map) → length (pairs_of m) ≡ fin.len m
 pair_count m = counted (fin.entries m) ∙ sym (fin.len-entries m)
+
+-- what holds of each entry holds of the pair at each place
+short_at : (es : List Entry) (k : ℕ) (d : Pair) → Each IsShort es → k < length (map entry_pair es) → IsShortPair (get_or (map entry_pair es) k d)
+short_at [] k d a lt = absurd (omega (arith, lt))
+short_at (e ∷ es) zero d a lt = a.0
+short_at (e ∷ es) (suc k) d a lt = short_at es k d a.1 (omega (arith, lt))
+
+pub short_pair : (m : Map) (k : ℕ) (d : Pair) → IsSmall m → k < length (pairs_of m) → IsShortPair (get_or (pairs_of m) k d)
+short_pair m k d s lt = short_at (fin.entries m) k d (each_of IsShort m s.short) lt

@@ -1,5 +1,5 @@
 -- The shortest spelling, group by group.
-use Rattle.std.proofs.Common.{◌≡◌, ℕ, zero, suc, ◌+◌, ◌-◌, ◌*◌, ◌/◌, ◌%◌, ◌^◌, ◌<◌, ◌≤◌, true, false, List, [], ◌∷◌, ◌++◌, length, take, set, refl, sym, ap, ◌∙◌, arith, append_assoc}
+use Rattle.std.proofs.Common.{◌≡◌, ℕ, zero, suc, ◌+◌, ◌-◌, ◌/◌, ◌%◌, ◌^◌, ◌<◌, ◌≤◌, true, false, List, [], ◌∷◌, ◌++◌, length, take, set, refl, sym, ap, ◌∙◌, arith, append_assoc}
 use Rattle.std.specs.Prelude.{nat_lt}
 use Rattle.std.proofs.lemmas.Bool.Decides.{nat_tests}
 use Rattle.kv_pairs.specs.Lengths.{shortest, shortest_in}
@@ -42,7 +42,6 @@ pub end_group : (gs : List ℕ) (size n : ℕ) → size ≤ 4 → length gs ≡ 
 end_group gs size n room len h =
     let one : 5 - size ≡ suc (4 - size) = omega (arith, room) in
     put_next gs size n (omega (arith, room, len)) ∙ ap (λ z. take size gs ++ z) (sym (ap (λ k. shortest_in k n) one ∙ last_group (4 - size) n h))
-
 
 pub one_group : (n : ℕ) → n < 128 → length (shortest n) ≡ 1
 unfolding shortest

@@ -12,10 +12,13 @@ pub some_span : (m : ℕ) → 0 < 128 ^ m
 some_span zero = omega arith
 some_span (suc m) = omega (arith, some_span m, pow-succ' 128 m)
 
-pub in_four : (m : ℕ) → m ≤ 4 → 128 ^ m ≤ 268435456
-in_four zero h = omega arith
-in_four (suc zero) h = omega arith
-in_four (suc (suc zero)) h = omega arith
-in_four (suc (suc (suc zero))) h = omega arith
-in_four (suc (suc (suc (suc zero)))) h = omega arith
-in_four (suc (suc (suc (suc (suc m))))) h = absurd (omega (arith, h))
+pub in_seven : (m : ℕ) → m ≤ 7 → 128 ^ m ≤ 562949953421312
+in_seven zero h = omega arith
+in_seven (suc zero) h = omega arith
+in_seven (suc (suc zero)) h = omega arith
+in_seven (suc (suc (suc zero))) h = omega arith
+in_seven (suc (suc (suc (suc zero)))) h = omega arith
+in_seven (suc (suc (suc (suc (suc zero))))) h = omega arith
+in_seven (suc (suc (suc (suc (suc (suc zero)))))) h = omega arith
+in_seven (suc (suc (suc (suc (suc (suc (suc zero))))))) h = omega arith
+in_seven (suc (suc (suc (suc (suc (suc (suc (suc m)))))))) h = absurd (omega (arith, h))

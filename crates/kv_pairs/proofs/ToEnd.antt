@@ -1,5 +1,5 @@
 -- What was read to the end, or stopped before it.
-use Rattle.std.proofs.Common.{◌≡◌, ℕ, ◌-◌, ◌<◌, Bool, false, List, [], ◌∷◌, length, drop, refl, sym, ap, ◌∙◌, arith, subst}
+use Rattle.std.proofs.Common.{◌≡◌, ℕ, ◌-◌, ◌<◌, false, List, [], length, refl, sym, ap, ◌∙◌, arith, subst}
 use Rattle.std.specs.Prelude.{None, Result, Ok, Err, MatchResult, IfOk, IfErr, ◌==◌}
 use Rattle.std.proofs.lemmas.Bool.Decides.{nat_tests}
 use Rattle.kv_pairs.specs.Grammar.{Units, IsPayloadOf, IsGreedy, IsLongestRun}
@@ -27,11 +27,16 @@ none_of bytes done rest e h =
 
 pub payload_ends : (r : Result (List Item) ItemsStop) (bytes : List ℕ) (done : List Item) (rest : List ℕ) (end : ℕ) →
     read_payload bytes ≡ pair_of done rest → Ends r done rest end →
-    IfErr r (λ e. IfNotItems e (λ at. (items_of bytes ≡ None) × ((items : List Item) → IsPayloadOf bytes items → ⊥)))
+    IfErr r (λ e. IfNotItems e (λ at. items_of bytes ≡ None))
 payload_ends (Ok items) bytes done rest end e m = tt
-payload_ends (Err x) bytes done rest end e m =
-    let none = none_of bytes done rest e m.0 in
-    subst (λ z. IfNotItems z (λ at. (items_of bytes ≡ None) × ((items : List Item) → IsPayloadOf bytes items → ⊥))) (sym m.1) (none, λ items p. no_items bytes items none p)
+payload_ends (Err x) bytes done rest end e m = subst (λ z. IfNotItems z (λ at. items_of bytes ≡ None)) (sym m.1) (none_of bytes done rest e m.0)
+
+pub payload_outside : (r : Result (List Item) ItemsStop) (bytes : List ℕ) (done : List Item) (rest : List ℕ) (end : ℕ) →
+    read_payload bytes ≡ pair_of done rest → Ends r done rest end →
+    IfErr r (λ e. IfNotItems e (λ at. (items : List Item) → IsPayloadOf bytes items → ⊥))
+payload_outside (Ok items) bytes done rest end e m = tt
+payload_outside (Err x) bytes done rest end e m =
+    subst (λ z. IfNotItems z (λ at. (items : List Item) → IsPayloadOf bytes items → ⊥)) (sym m.1) (λ items p. no_items bytes items (none_of bytes done rest e m.0) p)
 
 pub payload_greedy : (r : Result (List Item) ItemsStop) (bytes : List ℕ) (done : List Item) (rest : List ℕ) → Small bytes →
     read_payload bytes ≡ pair_of done rest → Ends r done rest (length bytes) → IfErr r (λ e. IfNotItems e (λ at. IsGreedy bytes at (greedy_items bytes)))

@@ -1,5 +1,5 @@
 -- The items of a list one after another, and the first with no room for its expiry.
-use Rattle.std.proofs.Common.{◌≡◌, ◌≢◌, ℕ, zero, suc, ◌+◌, ◌<◌, Bool, true, false, cond, List, [], ◌∷◌, length, map, get_or, take, refl, sym, ap, ◌∙◌, subst, arith}
+use Rattle.std.proofs.Common.{◌≡◌, ◌≢◌, ℕ, zero, suc, ◌+◌, ◌<◌, Bool, true, false, cond, List, [], ◌∷◌, length, map, get_or, take, refl, sym, ap, ◌∙◌, arith}
 use Rattle.std.specs.Prelude.{Option, Some, None, option_map, ◌&&◌}
 use Rattle.std.specs.List.{list_all, enumerate_from}
 use Rattle.std.specs.FinMap as fin
@@ -88,7 +88,7 @@ first_is flag (i ∷ items) (suc k) d lt all refused =
 
 pub none_refused : (flag : Bool) (items : List Item) → list_all (has_room_for_expiry flag) items ≡ true → first_without_room flag items ≡ None
 none_refused flag [] all = refl
-none_refused flag (i ∷ items) all = 
+none_refused flag (i ∷ items) all =
     let a = both (has_room_for_expiry flag i) (list_all (has_room_for_expiry flag) items) all in rw a.0 (rw (none_refused flag items a.1) refl)
 
 no_map_of : (flag : Bool) (items : List Item) (k : ℕ) → first_without_room flag items ≡ Some k → list_all (has_room_for_expiry flag) items ≡ false

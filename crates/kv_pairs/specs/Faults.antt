@@ -1,5 +1,5 @@
 -- Why no length stands at the front of some bytes.
-use Rattle.std.specs.Prelude.{ℕ, Bool, true, false, List, Option, take, length, nat_lt, nat_le, ◌&&◌, ◌||◌}
+use Rattle.std.specs.Prelude.{ℕ, Bool, false, List, Option, take, length, nat_lt, nat_le, ◌&&◌, ◌||◌}
 use Rattle.std.specs.List.{list_all}
 use Rattle.std.specs.Option.{option_map_or}
 use Rattle.kv_pairs.specs.Reading.{number_in}

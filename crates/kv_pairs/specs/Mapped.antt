@@ -3,8 +3,7 @@ use Rattle.std.specs.List.{list_all}
 use Rattle.std.specs.Int.{to_le_bytes, from_le_bytes, w32}
 use Rattle.std.specs.FinMap as fin
 use Rattle.expiring_map.specs.ValueUntil.{ValueUntil}
-use Rattle.expiring_map.specs.Map.{Map, value_until, pairs_of}
-use Rattle.expiring_map.specs.declared.pair.Pair.{Pair}
+use Rattle.expiring_map.specs.Map.{Map, value_until}
 use Rattle.kv_pairs.specs.Lengths.{shortest}
 use Rattle.kv_pairs.specs.Reading.{units_at, items_of, greedy_items}
 use Rattle.kv_pairs.specs.declared.item.Item.{Item}
@@ -80,13 +79,13 @@ packed flag m = heading ++ flat_map (λ e. put_item flag e.0 e.1) (fin.entries m
 abbrev pub packed_size : Bool → Map → ℕ
 packed_size flag m = length (packed flag m)
 
--- the key and the value of the pair take at most 2 ^ 27 bytes each
-abbrev pub IsShort : Pair → Type 0
-IsShort p = (length p.key ≤ 2 ^ 27) × (length p.value ≤ 2 ^ 27)
+-- the key and the value take at most 2 ^ 27 bytes each
+abbrev pub IsShort : List ℕ → ValueUntil → Type 0
+IsShort key d = (length key ≤ 2 ^ 27) × (length d.value ≤ 2 ^ 27)
 
 -- the map has such pairs alone, and fewer than 2 ^ 32
 pub record IsSmall (m : Map) : Type 0 where
-  pub short : All IsShort (pairs_of m)
+  pub short : (key : List ℕ) (d : ValueUntil) → fin.get m key ≡ Some d → IsShort key d
   pub few : fin.len m < 2 ^ 32
 
 -- a pair that can be packed and read again: key and value aren't empty, and without the flag it has no expiry

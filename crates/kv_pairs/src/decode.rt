@@ -1,5 +1,5 @@
 // Reading a payload: a function for each part of its grammar.
-ghost use Rattle.std.specs.Prelude.{◌≡◌, ℕ, ◌+◌, ◌<◌, ◌≤◌, IfOk, IfErr, MatchOption, List, Some, None, [], drop, take, length};
+ghost use Rattle.std.specs.Prelude.{◌≡◌, ◌+◌, ◌<◌, ◌≤◌, IfOk, IfErr, MatchOption, List, Some, None, [], drop, length};
 ghost use Rattle.kv_pairs.specs.Reading.{text_at, unit_at, units_at, read_payload, items_of, greedy_items, greedy_size, run_size};
 ghost use Rattle.kv_pairs.specs.Grammar.{IsPayloadOf, IsGreedy, Units, IsLongestRun};
 ghost use Rattle.kv_pairs.specs.declared.item.Item.{Item};
@@ -8,7 +8,7 @@ ghost use Rattle.kv_pairs.specs.Found.{items_found, HaveKeys, IfNotItems};
 use crate::item::{Item, Items};
 use crate::length::read_length;
 use expiring_map::{Bytes, Memory};
-use std::alloc::{AllocError, AllocFailed, Global};
+use std::alloc::Global;
 use thiserror::Error;
 
 /// Why a payload gave no items.
@@ -83,7 +83,8 @@ pub fn decode_all(alloc: Global, payload: &[u8]) -> Result<Items, ItemsStop>
     ensures ok { IfOk result (λ items. items_of payload.now ≡ Some items) }
     ensures grammar { IfOk result (λ items. IsPayloadOf payload.now items) }
     ensures keys { IfOk result HaveKeys }
-    ensures none { IfErr result (λ e. IfNotItems e (λ at. (items_of payload.now ≡ None) × ((items : List Item) → IsPayloadOf payload.now items → ⊥))) }
+    ensures none { IfErr result (λ e. IfNotItems e (λ at. items_of payload.now ≡ None)) }
+    ensures outside { IfErr result (λ e. IfNotItems e (λ at. (items : List Item) → IsPayloadOf payload.now items → ⊥)) }
     ensures at { IfErr result (λ e. IfNotItems e (λ at. at ≡ greedy_size payload.now)) }
     ensures greedy { IfErr result (λ e. IfNotItems e (λ at. IsGreedy payload.now at (greedy_items payload.now))) }
 {
@@ -106,7 +107,7 @@ pub fn decode_from(alloc: Global, payload: &[u8], at: usize) -> Result<Items, It
     ensures ok { IfOk result (λ items. units_at (drop at payload.now) ≡ (items, [])) }
     ensures grammar { IfOk result (λ items. Units (drop at payload.now) items) }
     ensures keys { IfOk result HaveKeys }
-    ensures none { IfErr result (λ e. IfNotItems e (λ end. (items : List Item) → Units (drop at payload.now) items → ⊥)) }
+    ensures outside { IfErr result (λ e. IfNotItems e (λ end. (items : List Item) → Units (drop at payload.now) items → ⊥)) }
     ensures at { IfErr result (λ e. IfNotItems e (λ end. end ≡ at + run_size (drop at payload.now))) }
     ensures longest { IfErr result (λ e. IfNotItems e (λ end.
         IsLongestRun (drop at payload.now) (run_size (drop at payload.now)) (units_at (drop at payload.now)).0)) }
@@ -121,11 +122,10 @@ fn read_text(bytes: &[u8]) -> Option<(&[u8], &[u8])>
 {
     let (size, after) = read_length(bytes).ok()?;
     let rest = &bytes[after..];
-    if size as usize <= rest.len() {
-        Some(rest.split_at(size as usize))
-    } else {
-        None
+    if size as usize > rest.len() {
+        return None;
     }
+    Some(rest.split_at(size as usize))
 }
 
 // The unit at the front, which is no entry where its first length is 0, and what stands behind it.
@@ -171,4 +171,68 @@ fn read_units(alloc: Global, bytes: &[u8]) -> Result<Front<'_>, Memory>
         rest = behind;
     }
     Ok(Front { items, rest })
+}
+
+#[cfg(test)]
+mod tests {
+    use super::*;
+    use std::test::Fail;
+
+    // The items k with 07 and j with 01, and a zero between them.
+    const PAYLOAD: [u8; 14] = [
+        0xff, 0xff, 0xff, 0x07, 0x81, 0x00, 0x6b, 0x01, 0x07, 0x00, 0x01, 0x6a, 0x01, 0x01,
+    ];
+
+    fn are(items: &[Item], rows: &[(&[u8], &[u8])]) -> bool {
+        items.len() == rows.len()
+            && items.iter().zip(rows).all(|(item, row)| item.key.as_slice() == row.0
+                && item.value.as_slice() == row.1)
+    }
+
+    #[test]
+    fn a_payload_is_read_to_its_end(rt: HostRuntime) -> Result<(), Fail> {
+        let rows: [(&[u8], &[u8]); 2] = [(&[0x6b], &[0x07]), (&[0x6a], &[0x01])];
+        let items = decode_all(rt.alloc(), &PAYLOAD)?;
+        assert!(rt; are(items.as_slice(), &rows));
+        let items = decode_from(rt.alloc(), &PAYLOAD, 4)?;
+        assert!(rt; are(items.as_slice(), &rows));
+        let items = decode_from(rt.alloc(), &PAYLOAD, 10)?;
+        assert!(rt; are(items.as_slice(), &rows[1..]));
+        assert!(rt; decode_all(rt.alloc(), &[])?.as_slice().is_empty());
+        assert!(rt; decode_from(rt.alloc(), &PAYLOAD, 14)?.as_slice().is_empty());
+        Ok(())
+    }
+
+    #[test]
+    fn a_payload_that_ends_inside_an_item_has_the_items_before_it(
+        rt: HostRuntime,
+    ) -> Result<(), Fail> {
+        let rows: [(&[u8], &[u8]); 1] = [(&[0x6b], &[0x07])];
+        let cut = &PAYLOAD[..13];
+        let stop = Some(ItemsStop::NotItems { at: 10 });
+        assert_eq!(rt; decode_all(rt.alloc(), cut).err(), stop);
+        assert_eq!(rt; decode_from(rt.alloc(), cut, 4).err(), stop);
+        let greedy = decode_greedy(rt.alloc(), cut)?;
+        assert!(rt; are(greedy.as_slice(), &rows));
+        Ok(())
+    }
+
+    #[test]
+    fn a_place_with_no_item_is_told(rt: HostRuntime) -> Result<(), Fail> {
+        let rows: [(&[u8], usize); 5] = [
+            (&[0xff, 0xff, 0xff, 0x07, 0x05], 4),
+            (&[0x80, 0x80, 0x80, 0x80, 0x08, 0x00], 0),
+            (&[0x80], 0),
+            (&[0x07, 0x01, 0x61, 0x00, 0x01], 4),
+            (&[0x07, 0x01, 0x61, 0x80, 0x80, 0x80, 0x80, 0x80, 0x00], 1),
+        ];
+        for (payload, at) in rows.iter() {
+            assert_eq!(rt;
+                decode_all(rt.alloc(), payload).err(),
+                Some(ItemsStop::NotItems { at: *at })
+            );
+        }
+        assert!(rt; decode_greedy(rt.alloc(), &[0x80])?.as_slice().is_empty());
+        Ok(())
+    }
 }

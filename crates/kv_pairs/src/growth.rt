@@ -1,5 +1,5 @@
 // How far a data file grows for a rewrite.
-ghost use Rattle.std.specs.Prelude.{◌≡◌, ℕ, ◌+◌, ◌*◌, ◌^◌, ◌<◌, ◌≤◌, ◌↔◌, IsNone};
+ghost use Rattle.std.specs.Prelude.{◌≡◌, ◌+◌, ◌*◌, ◌^◌, ◌<◌, ◌≤◌, ◌↔◌, IsNone};
 ghost use Rattle.kv_pairs.specs.Growth.{grown_size, grown_to, IsFileSize};
 
 // The greatest size of a data file.
@@ -37,4 +37,17 @@ fn doubled(file: u64, wanted: u64) -> u64
         size *= 2;
     }
     size
+}
+
+#[cfg(test)]
+mod tests {
+    use super::*;
+
+    #[test]
+    fn a_file_doubles_until_there_is_room(rt: HostRuntime) {
+        assert_eq!(rt; grown_size(4_008, 85, 1, 4_096), Some(65_536));
+        assert_eq!(rt; grown_size(4, 7, 0, 4_096), Some(4_096));
+        assert_eq!(rt; grown_size(67_108_860, 0, 1, 4_096), Some(67_108_864));
+        assert_eq!(rt; grown_size(67_108_860, 1, 1, 67_108_864), None);
+    }
 }

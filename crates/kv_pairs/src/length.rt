@@ -1,5 +1,5 @@
 // The spelling of a length: seven bits a byte, the lowest first, the high bit on each byte but the last.
-ghost use Rattle.std.specs.Prelude.{◌≡◌, ℕ, ◌*◌, ◌^◌, ◌<◌, ◌≤◌, ◌↔◌, ◌++◌, IfOk, OnOk, OnErr, IsTrue, IsErrOf, Some, drop, take, length, vec_len, MatchResult, None};
+ghost use Rattle.std.specs.Prelude.{◌≡◌, ◌^◌, ◌<◌, ◌≤◌, ◌↔◌, ◌++◌, IfOk, OnOk, OnErr, IsTrue, IsErrOf, Some, drop, take, length, None};
 ghost use Rattle.kv_pairs.specs.Lengths.{Spells, shortest};
 ghost use Rattle.kv_pairs.specs.Reading.{length_at, number_in};
 ghost use Rattle.kv_pairs.specs.Faults.{is_cut, is_too_long, all_high};
@@ -20,7 +20,8 @@ pub enum LengthFault {
 #[tactic(auto, unfolding(crate::specs::Reading::length_at))]
 pub fn read_length(bytes: &[u8]) -> Result<(u32, usize), LengthFault>
     ensures ok { IfOk result (λ r. length_at bytes.now ≡ Some (r.0, drop r.1 bytes.now)) }
-    ensures spelled { IfOk result (λ r. (r.1 ≤ length bytes.now) × Spells (take r.1 bytes.now) r.0) }
+    ensures size { IfOk result (λ r. r.1 ≤ length bytes.now) }
+    ensures spelled { IfOk result (λ r. Spells (take r.1 bytes.now) r.0) }
     ensures none { OnErr result (length_at bytes.now ≡ None) }
     ensures cut { IsErrOf result LengthFault.Cut ↔ IsTrue (is_cut bytes.now) }
     ensures long { IsErrOf result LengthFault.TooLong ↔ IsTrue (is_too_long bytes.now) }
@@ -35,7 +36,7 @@ pub fn read_length(bytes: &[u8]) -> Result<(u32, usize), LengthFault>
 
 // A number in at most so many bytes, and how many it takes.
 fn read_number(bytes: &[u8], most: u32) -> Result<(u64, usize), LengthFault>
-    requires { most ≤ 5 }
+    requires { most ≤ 8 }
     ensures ok { IfOk result (λ r. number_in most bytes.now ≡ Some (r.0, drop r.1 bytes.now)) }
     ensures size { IfOk result (λ r. r.1 ≤ length bytes.now) }
     ensures bound { IfOk result (λ r. r.0 < 128 ^ most) }
@@ -87,4 +88,54 @@ pub fn write_length(n: u32, out: &mut Vec<u8>) -> Result<(), Memory>
     groups[size] = left as u8;
     out.extend_from_slice(&groups[..size + 1])?;
     Ok(())
+}
+
+#[cfg(test)]
+mod tests {
+    use super::*;
+    use std::test::Fail;
+
+    #[test]
+    fn a_length_takes_its_shortest_spelling(rt: HostRuntime) -> Result<(), Fail> {
+        let rows: [(u32, &[u8]); 6] = [
+            (0, &[0x00]),
+            (127, &[0x7f]),
+            (128, &[0x80, 0x01]),
+            (16_383, &[0xff, 0x7f]),
+            (16_384, &[0x80, 0x80, 0x01]),
+            (2_147_483_647, &[0xff, 0xff, 0xff, 0xff, 0x07]),
+        ];
+        for (n, spelled) in rows.iter() {
+            assert!(rt; *n < 1 << 31);
+            let mut out = Vec::new(rt.alloc());
+            write_length(*n, &mut out)?;
+            assert_eq!(rt; out.as_slice(), *spelled, "at {n}");
+            assert_eq!(rt; length_size(*n), spelled.len(), "at {n}");
+            assert_eq!(rt; read_length(spelled), Ok((*n, spelled.len())), "at {n}");
+        }
+        Ok(())
+    }
+
+    #[test]
+    fn a_length_may_be_longer_than_needed_and_at_most_five_bytes(rt: HostRuntime) {
+        let rows: [(&[u8], Result<(u32, usize), LengthFault>); 8] = [
+            (&[0x80, 0x00, 0x05], Ok((0, 2))),
+            (&[0x81, 0x80, 0x80, 0x80, 0x00], Ok((1, 5))),
+            (
+                &[0xff, 0xff, 0xff, 0xff, 0x07, 0x09],
+                Ok((2_147_483_647, 5)),
+            ),
+            (&[0x80, 0x80, 0x80, 0x80, 0x08], Err(LengthFault::TooLong)),
+            (
+                &[0x80, 0x80, 0x80, 0x80, 0x80, 0x00],
+                Err(LengthFault::TooLong),
+            ),
+            (&[0x80, 0x80, 0x80, 0x80], Err(LengthFault::Cut)),
+            (&[0xff], Err(LengthFault::Cut)),
+            (&[], Err(LengthFault::Cut)),
+        ];
+        for (bytes, want) in rows.iter() {
+            assert_eq!(rt; read_length(bytes), *want);
+        }
+    }
 }

@@ -1,5 +1,5 @@
 // The map of some items: each key has its last value, and with the flag a value ends with its expiry.
-ghost use Rattle.std.specs.Prelude.{◌≡◌, ◌≢◌, ℕ, ◌<◌, Bool, true, List, is_some, Some, None, [], IfOk, IfErr, OnOk, OnErr, length, filter, take};
+ghost use Rattle.std.specs.Prelude.{◌≡◌, ◌≢◌, ℕ, ◌<◌, true, is_some, Some, None, [], IfOk, IfErr, OnOk, OnErr, length, filter, take};
 ghost use Rattle.std.specs.FinMap as fin;
 ghost use Rattle.expiring_map.specs.Map.{value_until};
 ghost use Rattle.kv_pairs.specs.Mapped.{map_of, with_item, with_items, has_room_for_expiry, first_without_room, map_in, units_fit, unstored};
@@ -61,7 +61,8 @@ pub fn map_greedy(alloc: Global, flag: bool, items: Items) -> Result<ExpiringMap
 /// Brings these items into a map. After `NoMap` the map has the items before the refused one.
 pub fn extend(flag: bool, map: &mut ExpiringMap, items: Items) -> Result<(), MapStop>
     requires { HaveKeys items }
-    ensures ok { OnOk result ((map.new ≡ with_items flag map.old items) × (first_without_room flag items ≡ None)) }
+    ensures ok { OnOk result (map.new ≡ with_items flag map.old items) }
+    ensures all { OnOk result (first_without_room flag items ≡ None) }
     ensures none { IfErr result (λ e. IfNoMap e (λ item. map_of flag items ≡ None)) }
     ensures at { IfErr result (λ e. IfNoMap e (λ item. first_without_room flag items ≡ Some item)) }
     ensures before { IfErr result (λ e. IfNoMap e (λ item. map.new ≡ with_items flag map.old (take item items))) }
@@ -143,4 +144,68 @@ fn units_fit(flag: bool, bytes: &[u8]) -> bool
         rest = behind;
     }
     rest.is_empty()
+}
+
+#[cfg(test)]
+mod tests {
+    use super::*;
+    use crate::decode::decode_all;
+    use std::test::Fail;
+
+    // Items a, b, a again, and b removed.
+    const TWICE: [u8; 16] = [
+        0x07, 0x01, 0x61, 0x01, 0x05, 0x01, 0x62, 0x01, 0x08, 0x01, 0x61, 0x01, 0x06, 0x01, 0x62,
+        0x00,
+    ];
+
+    // With the flag: a with 09 until second 110, b removed, and c with no room for its expiry.
+    const EXPIRING: [u8; 17] = [
+        0x07, 0x01, 0x61, 0x05, 0x09, 0x6e, 0x00, 0x00, 0x00, 0x01, 0x62, 0x00, 0x01, 0x63, 0x02,
+        0x00, 0x00,
+    ];
+
+    #[test]
+    fn the_last_item_of_a_key_counts(rt: HostRuntime) -> Result<(), Fail> {
+        let map = map_of(rt.alloc(), false, decode_all(rt.alloc(), &TWICE)?)?;
+        assert_eq!(rt; map.len(), 1);
+        assert_eq!(rt; map.value_at(&[0x61], 1_000), Some([0x06].as_slice()));
+        Ok(())
+    }
+
+    #[test]
+    fn a_value_with_no_room_for_its_expiry_is_refused_or_passed_over(
+        rt: HostRuntime,
+    ) -> Result<(), Fail> {
+        let stop = Some(MapStop::NoMap { item: 2 });
+        let refused = map_of(rt.alloc(), true, decode_all(rt.alloc(), &EXPIRING)?);
+        assert_eq!(rt; refused.err(), stop);
+        let mut map = ExpiringMap::new(rt.alloc());
+        let refused = extend(true, &mut map, decode_all(rt.alloc(), &EXPIRING)?);
+        assert_eq!(rt; refused.err(), stop);
+        let greedy = map_greedy(rt.alloc(), true, decode_all(rt.alloc(), &EXPIRING)?)?;
+        for map in [&map, &greedy] {
+            assert_eq!(rt; map.len(), 1);
+            assert_eq!(rt; map.value_at(&[0x61], 109), Some([0x09].as_slice()));
+            assert_eq!(rt; map.value_at(&[0x61], 110), None);
+        }
+        extend(false, &mut map, decode_all(rt.alloc(), &EXPIRING)?)?;
+        assert_eq!(rt; map.len(), 2);
+        Ok(())
+    }
+
+    #[test]
+    fn a_payload_is_tested_for_a_map(rt: HostRuntime) {
+        let rows: [(bool, &[u8], bool); 7] = [
+            (false, &TWICE, true),
+            (true, &TWICE, false),
+            (false, &EXPIRING, true),
+            (true, &EXPIRING, false),
+            (true, &EXPIRING[..12], true),
+            (false, &TWICE[..15], false),
+            (true, &[], true),
+        ];
+        for (flag, payload, want) in rows.iter() {
+            assert_eq!(rt; has_map(*flag, payload), *want);
+        }
+    }
 }

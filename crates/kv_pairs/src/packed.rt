@@ -1,9 +1,9 @@
 // Writing items, one by one or all those of a map.
-ghost use Rattle.std.specs.Prelude.{◌≡◌, ◌≢◌, ℕ, ◌+◌, ◌^◌, ◌<◌, ◌≤◌, ◌++◌, ◌==◌, Bool, List, [], Some, OnOk, OnErr, length, take, vec_len, if◌then◌else◌};
+ghost use Rattle.std.specs.Prelude.{◌≡◌, ◌≢◌, ℕ, ◌+◌, ◌^◌, ◌<◌, ◌≤◌, ◌++◌, ◌==◌, Bool, List, [], Some, IfOk, OnOk, OnErr, length, take, if◌then◌else◌};
 ghost use Rattle.expiring_map.specs.ValueUntil.{ValueUntil};
 ghost use Rattle.expiring_map.specs.Map.{Map, value_until};
 ghost use Rattle.kv_pairs.specs.Lengths.{shortest};
-ghost use Rattle.kv_pairs.specs.Mapped.{put_item, remove_item, written_item, packed, packed_size, map_in, IsSmall, IsPackable};
+ghost use Rattle.kv_pairs.specs.Mapped.{written_item, packed, packed_size, map_in, IsSmall, IsPackable};
 
 use crate::length::{length_size, write_length};
 use expiring_map::{ExpiringMap, Memory};
@@ -104,10 +104,10 @@ pub fn pack(flag: bool, map: &ExpiringMap, out: &mut Vec<u8>) -> Result<(), Memo
     ensures ok { OnOk result (out.new.items ≡ out.old.items ++ packed flag map.now) }
     ensures err { OnErr result (out.new.items ≡ out.old.items) }
 {
-    let before = out.len();
+    let start = out.len();
     let written = write_map(flag, map, out);
     if written.is_err() {
-        out.truncate(before);
+        out.truncate(start);
     }
     written
 }
@@ -129,5 +129,75 @@ fn write_map(flag: bool, map: &ExpiringMap, out: &mut Vec<u8>) -> Result<(), Mem
 /// A packed map is read again: the items of its payload give that map.
 pub fn a_packed_map_is_read_again()
     ensures { (flag : Bool) (m : Map) → IsPackable flag m → map_in flag (packed flag m) ≡ Some m }
-{
+{}
+
+#[cfg(test)]
+mod tests {
+    use super::*;
+    use expiring_map::{Bytes, Pair};
+    use std::alloc::Global;
+    use std::test::Fail;
+
+    // The key k with 07 until second 110, and j with 01 for ever.
+    fn two_pairs(alloc: Global) -> Result<ExpiringMap, Memory>
+        ensures { IfOk result IsSmall }
+    {
+        let mut map = ExpiringMap::new(alloc);
+        map.put(Pair {
+            key: Bytes::copy_of(alloc, &[0x6b])?,
+            value: Bytes::copy_of(alloc, &[0x07])?,
+            expiry: 110,
+        })?;
+        map.put(Pair {
+            key: Bytes::copy_of(alloc, &[0x6a])?,
+            value: Bytes::copy_of(alloc, &[0x01])?,
+            expiry: 0,
+        })?;
+        Ok(map)
+    }
+
+    #[test]
+    fn a_map_is_packed_in_byte_order_of_keys(rt: HostRuntime) -> Result<(), Fail> {
+        let map = two_pairs(rt.alloc())?;
+        let rows: [(bool, &[u8]); 2] = [
+            (
+                true,
+                &[
+                    0xff, 0xff, 0xff, 0x07, 0x01, 0x6a, 0x05, 0x01, 0x00, 0x00, 0x00, 0x00, 0x01,
+                    0x6b, 0x05, 0x07, 0x6e, 0x00, 0x00, 0x00,
+                ],
+            ),
+            (
+                false,
+                &[
+                    0xff, 0xff, 0xff, 0x07, 0x01, 0x6a, 0x01, 0x01, 0x01, 0x6b, 0x01, 0x07,
+                ],
+            ),
+        ];
+        for (flag, want) in rows.iter() {
+            let mut out = Vec::new(rt.alloc());
+            pack(*flag, &map, &mut out)?;
+            assert_eq!(rt; out.as_slice(), *want);
+            assert_eq!(rt; packed_size(*flag, &map), want.len() as u64);
+        }
+        Ok(())
+    }
+
+    #[test]
+    fn a_removal_has_no_expiry(rt: HostRuntime) -> Result<(), Fail> {
+        let mut out = Vec::new(rt.alloc());
+        append_item(true, &[0x6b], &[0x07], 110, &mut out)?;
+        append_item(true, &[0x6b], &[], 110, &mut out)?;
+        append_item(false, &[0x6b], &[0x07], 110, &mut out)?;
+        let want = [
+            0x01, 0x6b, 0x05, 0x07, 0x6e, 0x00, 0x00, 0x00, 0x01, 0x6b, 0x00, 0x01, 0x6b, 0x01,
+            0x07,
+        ];
+        assert_eq!(rt; out.as_slice(), want.as_slice());
+        assert_eq!(rt; item_size(true, 1, 1), 8);
+        assert_eq!(rt; item_size(true, 1, 0), 3);
+        assert_eq!(rt; item_size(false, 1, 1), 4);
+        assert_eq!(rt; item_size(true, 1 << 27, 1 << 27), 268_435_468);
+        Ok(())
+    }
 }

@@ -11,8 +11,8 @@ returns-clause-grammar c =
     ap units_at (sym c.split_at.ensures.back) ∙ c.in_ok-read_units.ensures.read in
     units_to_end c.to_end.result _ _ _ _ (Small-drop c.args.at c.args.payload.now (Small-of c.args.payload.now (λ i. omega (arith, c.type_inv.payload i)))) read c.to_end.ensures
 
-pub returns-clause-none : goal.returns-clause-none
-returns-clause-none c =
+pub returns-clause-outside : goal.returns-clause-outside
+returns-clause-outside c =
     let read : units_at (drop c.args.at c.args.payload.now) ≡ pair_of c.in_ok-read_units.field-0.items.items c.in_ok-read_units.field-0.rest.now =
     ap units_at (sym c.split_at.ensures.back) ∙ c.in_ok-read_units.ensures.read in
     units_end c.to_end.result _ _ _ _ read c.to_end.ensures

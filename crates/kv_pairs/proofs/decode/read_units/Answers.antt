@@ -1,5 +1,4 @@
-use Rattle.std.proofs.Common.{◌≡◌, ◌<◌, ◌≤◌, Some, None, length, ap, ◌∙◌, subst, arith}
-use Rattle.kv_pairs.specs.Reading.{unit_at}
+use Rattle.std.proofs.Common.{Some, length, ap, ◌∙◌, subst, arith}
 use Rattle.kv_pairs.specs.Found.{items_found, HaveKeys}
 use Rattle.kv_pairs.proofs.Stepping.{behind_unit, goes_on, goes_past, all_done, left_within}
 use Rattle.kv_pairs.proofs.GoodItems.{Small-of, units_have_keys}

@@ -1,4 +1,4 @@
-use Rattle.std.proofs.Common.{◌≡◌, refl, ◌*◌, ◌≤◌, sym, ap, ◌∙◌, arith}
+use Rattle.std.proofs.Common.{◌≡◌, refl, ◌*◌, sym, ap, ◌∙◌, arith}
 use Rattle.kv_pairs.specs.Growth.{grown_to}
 use Rattle.kv_pairs.proofs.Doubling.{at_least, double_on, double_ends, double_stops}
 use Rattle.kv_pairs.proofs.growth.doubled.Goals as goal

@@ -1,4 +1,4 @@
-use Rattle.std.proofs.Common.{sym, ap, ◌++◌, ◌∙◌, ◌≤◌, arith, length-set, refl}
+use Rattle.std.proofs.Common.{ap, ◌++◌, ◌∙◌, arith, length-set, refl}
 use Rattle.kv_pairs.specs.Lengths.{shortest}
 use Rattle.kv_pairs.proofs.Shortest.{groups_left, next_group, end_group}
 use Rattle.kv_pairs.proofs.length.write_length.Goals as goal

@@ -24,7 +24,7 @@ returns-then-not-has_room c =
     ap (λ v. has_room_for_expiry c.args.flag (record { key = []; value = v })) (sym c.as_slice.ensures) ∙ sym c.has_room.ensures ∙ c.if-not-has_room.true in
     let first = first_is c.args.flag c.args.items c.in-Some.place c.in-Some.item place.within room (sym (ap (has_room_for_expiry c.args.flag) place.item_is) ∙ refused) in
     let before = c.loop-place.invariant.so_far ∙ ap (with_items c.args.flag c.args.map.now) place.front in
-    record { ok = tt; none = no_map c.args.flag c.args.items c.in-Some.place first; at = first; before = before; memory = (c.in-Some.place, before) }
+    record { ok = tt; all = tt; none = no_map c.args.flag c.args.items c.in-Some.place first; at = first; before = before; memory = (c.in-Some.place, before) }
 
 pub returns-in_err-take_in-clause-memory : goal.returns-in_err-take_in-clause-memory
 returns-in_err-take_in-clause-memory c =
@@ -35,10 +35,10 @@ returns-in_err-take_in-clause-memory c =
     let p = err_from_is_err_and c.from_residual.result c.from_residual.ensures.1 in
     rw p.1 (c.in-Some.place, c.in_err-take_in.ensures.err ∙ before)
 
-pub returns-clause-ok : goal.returns-clause-ok
-returns-clause-ok c =
+pub returns : goal.returns
+returns c =
     let vec = YieldsList-from_vec {s = c.into_iter.result} c.args.items (c.into_iter.ensures.rest ∙ c.into_vec.ensures) (c.into_iter.ensures.len ∙ c.into_vec.result.ok.0 ∙ ap length c.into_vec.ensures) in
     let all = YieldsList-at c.into_iter-place-iterator.ensures.into_iter_gives (YieldsList-from_enumerate (YieldsList-at c.enumerate-place-items.ensures.source vec) c.enumerate-place-items.ensures.count) in
     let end = at_end c.args.items all c.loop-place.yielded c.loop-place.place-iterator c.loop-place.yielded_by c.next.result c.next.new.self c.in-None.is c.next.ensures.steps in
     let room = subst (λ items. list_all (has_room_for_expiry c.args.flag) items ≡ true) end c.loop-place.invariant.room in
-    (c.loop-place.invariant.so_far ∙ ap (with_items c.args.flag c.args.map.now) end, none_refused c.args.flag c.args.items room)
+    record { ok = c.loop-place.invariant.so_far ∙ ap (with_items c.args.flag c.args.map.now) end; all = none_refused c.args.flag c.args.items room; none = tt; at = tt; before = tt; memory = tt }

@@ -1,4 +1,4 @@
-use Rattle.std.proofs.Common.{◌≡◌, ◌≢◌, [], length, subst, sym, ap, ◌∙◌}
+use Rattle.std.proofs.Common.{◌≢◌, [], length, subst, sym, ap, ◌∙◌}
 use Rattle.std.proofs.lemmas.Iterator.Adapters.{YieldsList-from_vec}
 use Rattle.std.proofs.lemmas.Iterator.Consumers.{YieldsList-turn}
 use Rattle.kv_pairs.proofs.Turns.{key_at}

@@ -1,7 +1,6 @@
-use Rattle.std.proofs.Common.{◌≡◌, true, false, Some, [], refl, ap, sym, ◌∙◌}
+use Rattle.std.proofs.Common.{true, Some, refl, ap, sym, ◌∙◌}
 use Rattle.std.specs.Prelude.{◌&&◌}
 use Rattle.kv_pairs.specs.Found.{items_found}
-use Rattle.kv_pairs.specs.Mapped.{has_room_for_expiry}
 use Rattle.kv_pairs.proofs.Stepping.{behind_unit}
 use Rattle.kv_pairs.proofs.Fitting.{fit_past, not_fit}
 use Rattle.kv_pairs.proofs.maps.units_fit.Goals as goal
