@@ -5,8 +5,10 @@ mod command;
 mod dump;
 mod ending;
 mod mode;
+mod player;
 mod top;
 
 pub use ending::Status;
 pub use mode::Mode;
+pub use player::Player;
 pub use top::run;
