@@ -49,7 +49,6 @@ signed_is word (negsuc n) fits e =
     let number : digits_value 10 (drop 1 word) - 1 ≡ n = omega (arith, ap (λ w. digits_value 10 (drop 1 w)) e, (decimal_is_IsNumeral (suc n) small).1) in
     sym (ap (λ b. cond b (negsuc (digits_value 10 (drop 1 word) - 1)) (pos (digits_value 10 word))) test ∙ ap negsuc number)
 
-
 -- the one value of a kind that the word may spell
 abbrev reading : Kind → List ℕ → Value
 reading kind.Bool word = value.Bool (slice_index word 0 == 116)
