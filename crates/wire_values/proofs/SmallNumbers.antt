@@ -1,6 +1,6 @@
 -- A word whose number is too great for a kind is none of that kind.
-use Rattle.std.proofs.Common.{◌≡◌, ◌<◌, ◌^◌, ℤ, List, ℕ, ap, sym, ◌∙◌, subst, arith}
-use Rattle.std.specs.Prelude.{Option, Some, None, Result, Ok, Err, IfNone, FitsSigned}
+use Rattle.std.proofs.Common.{◌≡◌, ℤ, List, ℕ, ap, sym, ◌∙◌, subst}
+use Rattle.std.specs.Prelude.{Option, Result, Ok, Err, IfNone, FitsSigned}
 use Rattle.std.specs.Result.{OkIff, result_ok}
 use Rattle.std.specs.Int.{cast_signed, cast_unsigned, w32, w64}
 use Rattle.std.specs.Fmt.{signed_decimal}

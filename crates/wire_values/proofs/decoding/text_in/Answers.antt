@@ -1,4 +1,4 @@
-use Rattle.std.proofs.Common.{◌≡◌, ◌+◌, ◌-◌, ℕ, List, length, take, drop, ap, sym, ◌∙◌, arith, length-drop, length-take}
+use Rattle.std.proofs.Common.{◌≡◌, ◌-◌, length, take, drop, ap, sym, ◌∙◌, arith, length-drop, length-take}
 use Rattle.std.specs.Prelude.{Some, None}
 use Rattle.kv_pairs.specs.Reading.{length_at}
 use Rattle.kv_pairs.proofs.ReadsGrammar.{length_read}
