@@ -7,6 +7,7 @@ mod ending;
 mod limits;
 mod mode;
 mod player;
+mod refusals;
 mod top;
 
 pub use ending::Status;
