@@ -2,16 +2,20 @@
 #![tactic(auto)]
 
 mod answers;
+mod call_words;
 mod changes;
+mod grammar;
 mod input;
 mod line;
 mod outcome;
 mod output;
 mod region;
+mod value_words;
 mod words;
 
 pub use answers::{answer_text, damage_text, outcome_text};
 pub use changes::changes_text;
+pub use grammar::{LineStop, read_line};
 pub use input::{LARGEST_SCRIPT, ScriptStop, read_script};
 pub use line::{Line, Strategy};
 pub use outcome::{Outcome, Reason};
