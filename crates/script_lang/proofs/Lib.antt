@@ -8,3 +8,4 @@ pub mod Letters
 pub mod Calling
 pub mod Naming
 pub mod Meaning
+pub mod OneMeaning
