@@ -1,7 +1,6 @@
 // Values as words of a command line.
-ghost use Rattle.std.specs.Prelude.{◌≡◌, ◌≢◌, ◌↔◌, Ok, Err, ℕ, ◌*◌, ◌^◌, ◌<◌, ◌++◌, List, ℤ, Bool, IfOk, OnOk, OnErr, IfSome, IfNone, IsTrue, IsErrOf, FitsSigned, codes, decimal};
+ghost use Rattle.std.specs.Prelude.{◌≡◌, ◌≢◌, ◌↔◌, Err, ℕ, ◌^◌, ◌<◌, ◌++◌, List, ℤ, Bool, IfOk, OnOk, OnErr, IfSome, IfNone, IsTrue, IsErrOf, decimal};
 ghost use Rattle.std.specs.Fmt.{signed_decimal};
-ghost use Rattle.std.specs.Int.{w32, w64};
 ghost use Rattle.hex.specs.Hex.{decode_of, encode_lower, is_hex_digit};
 ghost use Rattle.std.specs.List.{AllPass};
 ghost use Rattle.wire_values.specs.Values.{kind_of};
