@@ -3,10 +3,12 @@
 
 mod dir_shelf;
 mod std_sink;
+mod std_source;
 mod words;
 
 use crate::dir_shelf::DirShelf;
 use crate::std_sink::StdSink;
+use crate::std_source::StdSource;
 use crate::words::words;
 use expiring_map::Bytes;
 use mmkv_top::run;
@@ -25,7 +27,8 @@ fn main(rt: HostRuntime) -> ExitCode {
         return ExitCode::from(8);
     };
     let mut shelf = DirShelf::new(&rt, directory);
+    let mut input = StdSource::new(&rt);
     let mut out = StdSink::new(&rt);
-    let status = run(rt.alloc(), &words, &mut shelf, &mut out);
+    let status = run(rt.alloc(), &words, &mut shelf, &mut input, &mut out);
     ExitCode::from(status.0)
 }
