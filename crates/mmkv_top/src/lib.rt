@@ -8,6 +8,8 @@ mod limits;
 mod lines;
 mod mode;
 mod play;
+#[cfg(test)]
+mod play_tests;
 mod player;
 mod refusals;
 mod top;
