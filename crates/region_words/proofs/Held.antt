@@ -16,6 +16,7 @@ use Rattle.region_words.specs.Lawful.{Lawful, IsPossible}
 use Rattle.region_words.specs.declared.event.What.{What}
 use Rattle.region_words.specs.declared.event.What.TheVariants.{Store, Grow, Lock, Unlock, Died}
 use Rattle.region_words.specs.declared.event.Event.{Event}
+use Rattle.region_words.specs.Past.{NoneOf}
 
 -- payloads that are told apart after an event were so before it
 pub Apart-front : (start : Region) (e : Event) (past : List Event) → Apart start (e ∷ past) → Apart start past
@@ -123,10 +124,6 @@ kept_region r locks other who (Lock kind) n p s h = (refl, refl)
 kept_region r locks other who Unlock n p s h = (refl, refl)
 kept_region r locks other who (Died None) n p s h = (refl, refl)
 kept_region r locks other who (Died (Some torn)) n p s h = absurd (no_other locks other who n s h p.0)
-
--- none of these events is of this opener
-abbrev pub NoneOf : ℕ → List Event → Type 0
-NoneOf who later = AllByRecursion (λ e. e.who ≢ who) later
 
 -- while an opener holds a lock, shared or exclusive, the others change nothing, and it holds it still
 pub held : (start : Region) (later past : List Event) (who : ℕ) → Lawful start (later ++ past) → holds (locks_after past) who ≡ true →

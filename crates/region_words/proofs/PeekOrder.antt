@@ -26,8 +26,8 @@ use Rattle.region_words.proofs.Samples.{bytes_of, meta}
 use Rattle.region_words.proofs.MapLemmas.{packed-empty}
 use Rattle.region_words.proofs.Regions.{All-from_Small, joined_bytes, zero_bytes}
 use Rattle.region_words.proofs.ApartTest.{apart_by, same_list, all_small}
-use Rattle.region_words.proofs.EqualSequence.{IsKept, free_resting, sequence_at}
-use Rattle.region_words.proofs.ReadLaws.{checksum_at}
+use Rattle.region_words.proofs.EqualSequence.{free_resting}
+use Rattle.region_words.specs.Images.{IsKept, checksum_at, sequence_at}
 
 abbrev nothing : List ℕ
 nothing = 0xff ∷ 0xff ∷ 0xff ∷ 0x07 ∷ []

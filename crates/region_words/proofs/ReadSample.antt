@@ -4,7 +4,7 @@ use Rattle.std.specs.FinMap as fin
 use Rattle.expiring_map.specs.Map.{Map, value_until}
 use Rattle.region_words.proofs.Stored.{Small}
 use Rattle.region_words.proofs.Regions.{All-from_Small, joined_bytes, zero_bytes}
-use Rattle.region_words.proofs.EqualSequence.{IsKept, free_resting}
+use Rattle.region_words.proofs.EqualSequence.{free_resting}
 use Rattle.region_words.proofs.PartialLoad.{Loaded, partial_load}
 use Rattle.region_words.proofs.ApartTest.{apart_by, same_list, all_small}
 use Rattle.region_words.specs.Apart.{Apart, strings}
@@ -26,6 +26,7 @@ use Rattle.region_words.specs.declared.event.What.{What}
 use Rattle.region_words.specs.declared.event.What.TheVariants.{Store, Lock, Unlock}
 use Rattle.region_words.specs.declared.event.Event.{Event}
 use Rattle.region_words.proofs.Samples.{bytes_of, meta, one_pair}
+use Rattle.region_words.specs.Images.{IsKept}
 
 abbrev put : Act
 put = act.Put (0x6b ∷ []) (0x01 ∷ 0x64 ∷ []) 0
