@@ -124,16 +124,16 @@ lawful = (
     (
       (
         (tt, record { maker = (lit≤ tt, lit≤ tt); alive = refl; possible = (refl, refl); accepted = λ _. refl }, λ _. (Between None, lead_locked)),
-        record { maker = (lit≤ tt, lit≤ tt); alive = refl; possible = (refl, lit≤ tt, lit< tt, λ e. absurd cc); accepted = λ _. refl },
+        record { maker = (lit≤ tt, lit≤ tt); alive = refl; possible = (refl, lit≤ tt, lit< tt, λ e. absurd cc, tt); accepted = λ _. refl },
         λ _. (_, lead_raised),
       ),
-      record { maker = (lit≤ tt, lit≤ tt); alive = refl; possible = (refl, lit≤ tt, lit< tt, tt); accepted = λ _. refl },
+      record { maker = (lit≤ tt, lit≤ tt); alive = refl; possible = (refl, lit≤ tt, lit< tt, tt, tt); accepted = λ _. refl },
       λ _. (_, lead_stored),
     ),
-    record { maker = (lit≤ tt, lit≤ tt); alive = refl; possible = (refl, lit≤ tt, lit< tt, tt); accepted = λ _. refl },
+    record { maker = (lit≤ tt, lit≤ tt); alive = refl; possible = (refl, lit≤ tt, lit< tt, tt, tt); accepted = λ _. refl },
     λ _. (_, lead_headed),
   ),
-  record { maker = (lit≤ tt, lit≤ tt); alive = refl; possible = (refl, lit≤ tt, lit< tt, λ e. absurd cc); accepted = λ _. refl },
+  record { maker = (lit≤ tt, lit≤ tt); alive = refl; possible = (refl, lit≤ tt, lit< tt, λ e. absurd cc, refl); accepted = λ _. refl },
   λ _. (_, lead_marked),
 )
 
