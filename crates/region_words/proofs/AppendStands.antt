@@ -15,7 +15,7 @@ use Rattle.region_words.specs.declared.event.Side.TheVariants.{Meta}
 use Rattle.region_words.specs.declared.event.Mark.TheVariants.{Commit}
 use Rattle.region_words.specs.declared.event.What.{What}
 use Rattle.region_words.specs.declared.event.What.TheVariants.{Store}
-use Rattle.region_words.proofs.Stored.{Small}
+use Rattle.region_words.proofs.WordStores.{Small}
 use Rattle.region_words.proofs.WordsRead.{IsWordIn, Holds, set_word, torn_word, payload_is, same_payload}
 use Rattle.region_words.proofs.Stands.{Stands, Fine, IsAt, data_stands, header_among}
 use Rattle.region_words.specs.Images.{Image}

@@ -20,7 +20,7 @@ use Rattle.region_words.specs.Past.{region_after, changes_of}
 use Rattle.region_words.specs.Apart.{Apart, strings}
 use Rattle.region_words.specs.Lawful.{Lawful, map_after}
 use Rattle.region_words.specs.declared.event.Event.{Event}
-use Rattle.region_words.proofs.Stored.{Small, Small-take, Small-drop}
+use Rattle.region_words.proofs.WordStores.{Small, Small-take, Small-drop}
 use Rattle.region_words.proofs.Regions.{Small-from_All, lawful_region}
 use Rattle.region_words.proofs.Shows.{whole_shown, shows_whole}
 use Rattle.region_words.proofs.WordsRead.{length-payload, payload-at, same_bytes}

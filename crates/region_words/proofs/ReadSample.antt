@@ -2,7 +2,7 @@
 use Rattle.std.proofs.Common.{◌≡◌, ℕ, List, [], ◌∷◌, ◌++◌, refl, sym, ap, lit<, lit≤, ◌<◌}
 use Rattle.std.specs.FinMap as fin
 use Rattle.expiring_map.specs.Map.{Map, value_until}
-use Rattle.region_words.proofs.Stored.{Small}
+use Rattle.region_words.proofs.WordStores.{Small}
 use Rattle.region_words.proofs.Regions.{All-from_Small, joined_bytes, zero_bytes}
 use Rattle.region_words.proofs.EqualSequence.{free_resting}
 use Rattle.region_words.proofs.PartialLoad.{Loaded, partial_load}

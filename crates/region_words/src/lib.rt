@@ -3,7 +3,11 @@
 
 mod event;
 mod laws;
+mod mute;
+mod next;
+mod share;
 mod standing;
+mod stops;
 
 pub use event::{Event, Mark, Side, TornWord, What};
 pub use laws::{
@@ -13,4 +17,7 @@ pub use laws::{
     no_row_is_under_way_where_nobody_holds_exclusive, the_last_confirmed_image_is_shown,
     what_holds_of_a_journal_holds_of_its_fronts,
 };
+pub use next::{Next, Stored};
+pub use share::Share;
 pub use standing::Standing;
+pub use stops::{Peek, ShareStop, TornStore, Unstored};

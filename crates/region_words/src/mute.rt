@@ -1,0 +1,108 @@
+// A share that tells nothing of its journal, as one over real files: a test of the trait.
+ghost use Rattle.std.specs.Prelude.{◌≡◌};
+ghost use Rattle.region_words.specs.Share.{risen};
+
+use crate::event::{Mark, Side};
+use crate::share::Share;
+use crate::stops::{Peek, ShareStop, TornStore, Unstored};
+use lock_rules::{LockKind, Tried};
+
+/// A share of opener 1 that tells nothing, over files of zeros. Nothing is stored.
+#[derive(Drop)]
+struct Mute {
+    lock: Option<LockKind>,
+    ended: bool,
+    places: u32,
+    room: u32,
+    loads: u64,
+}
+
+impl Mute {
+    fn new() -> Self {
+        Mute {
+            lock: None,
+            ended: false,
+            places: 0,
+            room: 0,
+            loads: 0,
+        }
+    }
+
+    fn count_load(&mut self)
+        ensures { self.new ≡ record self.old { loads = risen self.old.loads } }
+    {
+        self.loads = self.loads.saturating_add(1);
+    }
+}
+
+impl Share for Mute {
+    ghost use Rattle.region_words.specs.Mute.{mute_state};
+
+    ghost state = { mute_state };
+
+    fn who(&self) -> u32 {
+        1
+    }
+
+    fn changes(&self) -> u32 {
+        0
+    }
+
+    fn size(&mut self) -> Result<u32, ShareStop> {
+        self.count_load();
+        Ok(4096)
+    }
+
+    fn load(&mut self, _side: Side, _word: u32) -> Result<u32, ShareStop> {
+        self.count_load();
+        Ok(0)
+    }
+
+    fn peek_checksum(&mut self) -> Result<Peek, ShareStop> {
+        self.count_load();
+        Ok(Peek {
+            checksum: 0,
+            changes: 0,
+        })
+    }
+
+    fn peek_sequence(&mut self) -> Result<u32, ShareStop> {
+        self.count_load();
+        Ok(0)
+    }
+
+    fn reserve(&mut self, events: u32, size: u32) -> Result<(), ShareStop> {
+        let places = self.places.checked_add(events).ok_or(ShareStop::Memory)?;
+        self.places = places;
+        self.room = self.room.max(size);
+        Ok(())
+    }
+
+    fn store(&mut self, _side: Side, _word: u32, _value: u32, _mark: Mark) -> Result<(), Unstored> {
+        self.places -= 1;
+        Ok(())
+    }
+
+    fn grow(&mut self, _size: u32) -> Result<(), ShareStop> {
+        self.places -= 1;
+        Ok(())
+    }
+
+    fn try_lock(&mut self, kind: LockKind) -> Result<Tried, ShareStop> {
+        self.lock = Some(kind);
+        self.places = 0;
+        self.room = 0;
+        Ok(Tried::Taken)
+    }
+
+    fn unlock(&mut self) -> Result<(), ShareStop> {
+        self.lock = None;
+        Ok(())
+    }
+
+    fn die(&mut self, _torn: Option<TornStore>) -> Result<(), ShareStop> {
+        self.lock = None;
+        self.ended = true;
+        Ok(())
+    }
+}
