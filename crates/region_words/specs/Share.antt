@@ -11,6 +11,7 @@ use Rattle.meta_record.specs.Words.{word_at, torn}
 use Rattle.region_words.specs.Region.{Region, IsRegion}
 use Rattle.region_words.specs.Past.{region_after, locks_after, has_died, NoneOf}
 use Rattle.region_words.specs.Lawful.{Lawful, IsWordOf}
+use Rattle.region_words.specs.Outside.{one_more}
 use Rattle.region_words.specs.Told.{History, OnTold, TellsThat, OnBoth}
 use Rattle.region_words.specs.declared.event.Side.{Side}
 use Rattle.region_words.specs.declared.event.Side.TheVariants.{Data, Meta}
@@ -25,10 +26,6 @@ use Rattle.region_words.specs.declared.stops.TornStore.{TornStore}
 -- the events and the kept places that a journal has room for
 abbrev pub most_events : ℕ
 most_events = 4194304
-
--- a count that has gone up by one, and that stays at the end of its 64 bits
-abbrev pub risen : ℕ → ℕ
-risen n = min (n + 1) (2 ^ 64 - 1)
 
 -- how often this opener's calls failed, loaded, were answered Busy, and were answered Turn
 pub record Counts : Type 0 where
@@ -135,7 +132,7 @@ pub record After (left : Left) (old new : ShareState) : Type 0 where
   pub places : new.reserved old.who ≡ left.places
   pub room : new.room old.who ≡ left.room
   pub counts : new.counts ≡ left.counts
-  pub calls : old.alone ≡ true → new.calls ≡ risen old.calls
+  pub calls : old.alone ≡ true → new.calls ≡ one_more old.calls
   pub told : OnBoth old.told new.told (Grows old.who old.alone left.own)
   pub sound : IsSound new
 
@@ -164,7 +161,7 @@ died torn s = record { own = Died torn ∷ []; holds = None; ended = true; place
 -- a failed call is a death, which tears no word
 abbrev pub failed : ShareState → Left
 failed s =
-    record { own = Died None ∷ []; holds = None; ended = true; places = 0; room = 0; counts = record s.counts { faults = risen s.counts.faults } }
+    record { own = Died None ∷ []; holds = None; ended = true; places = 0; room = 0; counts = record s.counts { faults = one_more s.counts.faults } }
 
 abbrev pub loaded : ShareState → Left
 loaded s =
@@ -174,7 +171,7 @@ loaded s =
       ended = s.ended;
       places = s.reserved s.who;
       room = s.room s.who;
-      counts = record s.counts { loads = risen s.counts.loads };
+      counts = record s.counts { loads = one_more s.counts.loads };
     }
 
 abbrev pub refused : ShareState → Left
@@ -185,7 +182,7 @@ refused s =
       ended = s.ended;
       places = s.reserved s.who;
       room = s.room s.who;
-      counts = record s.counts { busy = risen s.counts.busy };
+      counts = record s.counts { busy = one_more s.counts.busy };
     }
 
 abbrev pub turned_away : ShareState → Left
@@ -196,7 +193,7 @@ turned_away s =
       ended = s.ended;
       places = s.reserved s.who;
       room = s.room s.who;
-      counts = record s.counts { turns = risen s.counts.turns };
+      counts = record s.counts { turns = one_more s.counts.turns };
     }
 
 -- places and room are reserved

@@ -1,6 +1,6 @@
 // A share that tells nothing of its journal, as one over real files: a test of the trait.
 ghost use Rattle.std.specs.Prelude.{◌≡◌};
-ghost use Rattle.region_words.specs.Share.{risen};
+ghost use Rattle.region_words.specs.Outside.{one_more};
 
 use crate::event::{Mark, Side};
 use crate::share::Share;
@@ -29,7 +29,7 @@ impl Mute {
     }
 
     fn count_load(&mut self)
-        ensures { self.new ≡ record self.old { loads = risen self.old.loads } }
+        ensures { self.new ≡ record self.old { loads = one_more self.old.loads } }
     {
         self.loads = self.loads.saturating_add(1);
     }
