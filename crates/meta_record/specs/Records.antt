@@ -1,6 +1,7 @@
 use Rattle.std.specs.Prelude.{ℕ, ◌+◌, ◌*◌, Bool, List, Result, Ok, Err, nat_lt, not, ◌&&◌, ◌||◌, ◌==◌, if◌then◌else◌}
 use Rattle.crc_words.specs.Crc.{crc}
 use Rattle.meta_record.specs.Words.{word_at, fits, payload}
+use Rattle.meta_record.specs.declared.record.TheConstants.{WORD_CHECKSUM, WORD_VERSION, WORD_SEQUENCE, WORD_SIZE, WORD_LAST_SIZE, WORD_LAST_CHECKSUM, WORD_FLAGS_LOW, WORD_FLAGS_HIGH}
 use Rattle.meta_record.specs.declared.record.Record.{Record}
 use Rattle.meta_record.specs.declared.shown.Damage.TheVariants.{Length, Checksum}
 use Rattle.meta_record.specs.declared.shown.Shown.{Shown}
@@ -8,17 +9,21 @@ use Rattle.meta_record.specs.declared.shown.Shown.TheVariants.{Whole, Header, La
 use Rattle.meta_record.specs.declared.record.RecordFault.{RecordFault}
 use Rattle.meta_record.specs.declared.record.RecordFault.TheVariants.{Version, Flags}
 
+-- the flags as one number, the low word first
+abbrev pub flags_at : List ℕ → ℕ
+flags_at meta = word_at meta WORD_FLAGS_LOW + 4294967296 * word_at meta WORD_FLAGS_HIGH
+
 -- the record that stands in the meta file
 abbrev pub record_at : List ℕ → Record
 record_at meta =
     record {
-      checksum = word_at meta 0;
-      version = word_at meta 1;
-      sequence = word_at meta 2;
-      size = word_at meta 7;
-      last_size = word_at meta 8;
-      last_checksum = word_at meta 9;
-      flags = word_at meta 26 + 4294967296 * word_at meta 27;
+      checksum = word_at meta WORD_CHECKSUM;
+      version = word_at meta WORD_VERSION;
+      sequence = word_at meta WORD_SEQUENCE;
+      size = word_at meta WORD_SIZE;
+      last_size = word_at meta WORD_LAST_SIZE;
+      last_checksum = word_at meta WORD_LAST_CHECKSUM;
+      flags = flags_at meta;
     }
 
 -- a store in which nothing was ever written
