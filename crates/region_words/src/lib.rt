@@ -1,6 +1,7 @@
 //! A region of two files of words, and the journal of what its openers did to it.
 #![tactic(auto)]
 
+mod account;
 mod clock;
 mod event;
 mod failing;

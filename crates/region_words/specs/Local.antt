@@ -1,0 +1,153 @@
+-- A region in memory: where it started, what has happened, and what is kept for its openers.
+use Rattle.std.specs.Prelude.{◌≡◌, ◌≢◌, ℕ, ◌+◌, ◌-◌, ◌<◌, ◌≤◌, Bool, true, false, List, [], ◌∷◌, length, replicate, Option, Some, None, not, ◌&&◌, ◌||◌, nat_lt, max, slice_index_or, slice_set, if◌then◌else◌, ⊤}
+use base.Stored.{coded_ℕ}
+use Rattle.kv_pairs.specs.Growth.{largest}
+use Rattle.lock_rules.specs.Locks.{Locks}
+use Rattle.lock_rules.specs.declared.table.LockKind.{LockKind}
+use Rattle.lock_rules.specs.declared.table.LockKind.TheVariants.{Exclusive}
+use Rattle.region_words.specs.Region.{Region, IsRegion}
+use Rattle.region_words.specs.Past.{locks_after, has_died}
+use Rattle.region_words.specs.Lawful.{Lawful}
+use Rattle.region_words.specs.Outside.{Tally, one_more, after_call}
+use Rattle.region_words.specs.Stores.{filled_up}
+use Rattle.region_words.specs.Share.{ShareState, most_events, total, unlock_place, lock_of}
+use Rattle.region_words.specs.declared.account.Account.{Account}
+use Rattle.region_words.specs.declared.event.What.{What}
+use Rattle.region_words.specs.declared.event.What.TheVariants.{Store, Grow, Lock, Unlock, Died}
+use Rattle.region_words.specs.declared.event.Event.{Event}
+
+-- A region in memory. The accounts are those of the openers 1 to 64, at their numbers; `failing` has the calls that are to
+-- fail and the number of calls made.
+pub record Local : Type 0 where
+  pub start : Region
+  pub past : List Event
+  pub accounts : List Account
+  pub failing : Tally
+
+-- that of an opener that was never admitted
+abbrev pub no_account : Account
+no_account = record { admitted = false; kept = 0; room = 0; faults = 0; loads = 0; busy = 0 }
+
+abbrev pub account_of : List Account → ℕ → Account
+account_of accounts who = slice_index_or accounts who no_account
+
+-- the places kept for all openers
+abbrev pub kept_in : List Account → ℕ
+kept_in accounts = total (λ w. (account_of accounts w).kept) 64
+
+-- the lock that an opener holds after these events
+abbrev pub lock_after : List Event → ℕ → Option LockKind
+lock_after past who = lock_of (locks_after past) who
+
+-- the places of an opener that aren't for its death or its unlock
+abbrev pub reserved_in : Local → ℕ → ℕ
+reserved_in l who = (account_of l.accounts who).kept - (1 + unlock_place (lock_after l.past who))
+
+-- an account agrees with what has happened
+pub record IsAccount (past : List Event) (who : ℕ) (a : Account) : Type 0 where
+  -- an opener has places as long as it lives
+  pub lives : (a.admitted && not (has_died past who)) ≡ nat_lt 0 a.kept
+  pub unlocks : 0 < a.kept → 1 + unlock_place (lock_after past who) ≤ a.kept
+  pub idle : a.kept ≡ 0 → lock_after past who ≡ None
+  -- only who holds exclusive has more, or room
+  pub unreserved : lock_after past who ≢ Some Exclusive → (a.kept ≤ 1 + unlock_place (lock_after past who)) × (a.room ≡ 0)
+
+-- what is true of every region in memory
+pub record IsLocal (l : Local) : Type 0 where
+  pub region : IsRegion l.start
+  pub lawful : Lawful l.start l.past
+  pub accounts : length l.accounts ≡ 65
+  pub each : (who : ℕ) → IsAccount l.past who (account_of l.accounts who)
+  pub few : length l.past + kept_in l.accounts ≤ most_events
+
+-- a region of these files, filled up to whole pages, in which nothing has happened
+abbrev pub opening : List ℕ → List ℕ → Local
+opening body meta =
+    record {
+      start = record { data_bytes = filled_up body; meta_bytes = filled_up meta };
+      past = [];
+      accounts = replicate 65 no_account;
+      failing = record { listed = []; made = 0; faults = 0 };
+    }
+
+abbrev pub event_of : ℕ → What → Event
+event_of who what = record { who = who; what = what }
+
+abbrev pub with_account : Local → ℕ → Account → Local
+with_account l who a = record l { accounts = slice_set l.accounts who a }
+
+-- what an event leaves of the account of its opener
+abbrev pub account_after : What → Account → Account
+account_after (Lock kind) a = record a { kept = a.kept + 1 }
+account_after Unlock a = record a { kept = 1; room = 0 }
+account_after (Died torn) a = record a { kept = 0; room = 0 }
+account_after _ a = record a { kept = a.kept - 1 }
+
+-- an event takes one of the places that are kept for its opener
+abbrev pub IsKeptFor : Account → Option LockKind → What → Type 0
+IsKeptFor a lock (Lock kind) = 0 < a.kept
+IsKeptFor a lock Unlock = ⊤
+IsKeptFor a lock (Died torn) = 0 < a.kept
+IsKeptFor a lock _ = 0 < a.kept - (1 + unlock_place lock)
+
+-- a lock wants a place for itself and keeps one for its unlock
+abbrev pub HasRoomFor : Local → What → Type 0
+HasRoomFor l (Lock kind) = length l.past + kept_in l.accounts + 2 ≤ most_events
+HasRoomFor l _ = ⊤
+
+-- the journal has a place for this event
+pub record HasPlace (l : Local) (who : ℕ) (what : What) : Type 0 where
+  pub kept : IsKeptFor (account_of l.accounts who) (lock_after l.past who) what
+  pub room : HasRoomFor l what
+
+-- the region after one more event
+abbrev pub with_event : Local → ℕ → What → Local
+with_event l who what =
+    record l {
+      past = event_of who what ∷ l.past;
+      accounts = slice_set l.accounts who (account_after what (account_of l.accounts who));
+    }
+
+-- the region after one more call, which failed or not
+abbrev pub called : Local → Bool → Local
+called l fails = record l { failing = after_call l.failing fails }
+
+-- an account after one more load, one more answer Busy, one more fault, and with more reserved
+abbrev pub after_load : Account → Account
+after_load a = record a { loads = one_more a.loads }
+
+abbrev pub after_refusal : Account → Account
+after_refusal a = record a { busy = one_more a.busy }
+
+abbrev pub after_fault : Account → Account
+after_fault a = record a { faults = one_more a.faults }
+
+abbrev pub after_reserve : ℕ → ℕ → Account → Account
+after_reserve events size a = record a { kept = a.kept + events; room = max a.room size }
+
+-- a region in memory with the opener whose calls are made on it
+pub record Seated : Type 0 where
+  pub who : ℕ
+  pub region : Local
+
+-- it stands for a share that is alone and tells everything
+abbrev pub seat_state : Seated → ShareState
+seat_state s =
+    let l = s.region in
+    let a = account_of l.accounts s.who in
+    record {
+      who = s.who;
+      told = Some (record { start = l.start; past = l.past });
+      holds = lock_after l.past s.who;
+      ended = not a.admitted || has_died l.past s.who;
+      alone = true;
+      turnless = true;
+      admitted = λ w. (account_of l.accounts w).admitted;
+      reserved = reserved_in l;
+      room = λ w. (account_of l.accounts w).room;
+      kept = kept_in l.accounts;
+      fails = Some l.failing.listed;
+      calls = l.failing.made;
+      counts = record { faults = a.faults; loads = a.loads; busy = a.busy; turns = 0 };
+      tag = coded_ℕ.code 0;
+    }
