@@ -59,7 +59,7 @@ account_other past e w a died lock is =
     }
 
 -- an event that is no death leaves its maker alive or dead
-not_dead : (past : List Event) (who : ℕ) (what : What) → is_death what ≡ false → has_died (event_of who what ∷ past) who ≡ has_died past who
+pub not_dead : (past : List Event) (who : ℕ) (what : What) → is_death what ≡ false → has_died (event_of who what ∷ past) who ≡ has_died past who
 not_dead past who what e = go (who == who) (is_death what) e
   where
     go : (b d : Bool) → d ≡ false → ((b && d) || has_died past who) ≡ has_died past who
@@ -67,10 +67,10 @@ not_dead past who what e = go (who == who) (is_death what) e
     go true false e = refl
     go false d e = refl
 
-now_dead : (past : List Event) (who : ℕ) (what : What) → is_death what ≡ true → has_died (event_of who what ∷ past) who ≡ true
+pub now_dead : (past : List Event) (who : ℕ) (what : What) → is_death what ≡ true → has_died (event_of who what ∷ past) who ≡ true
 now_dead past who what e = let same : (who == who) ≡ true = grind (arith, nat_tests) in rw (same, e) refl
 
-above_none : (n : ℕ) → 0 < n → nat_lt 0 n ≡ true
+pub above_none : (n : ℕ) → 0 < n → nat_lt 0 n ≡ true
 above_none n p = grind (arith, nat_tests)
 
 -- who may take a lock holds none

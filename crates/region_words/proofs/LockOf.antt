@@ -59,6 +59,12 @@ exclusive_is locks who e = go (holds_exclusive locks who) (set.contains locks.sh
     go false true e = absurd cc
     go false false e = absurd cc
 
+pub exclusive_holds : (locks : Locks) (who : ℕ) → lock_of locks who ≡ Some Exclusive → holds locks who ≡ true
+exclusive_holds locks who e = holds_some locks who (λ none. clash (sym none ∙ e))
+  where
+    clash : None ≡ Some Exclusive → ⊥
+    clash e = cc
+
 two : (a b c d : Bool) → a ≡ c → b ≡ d → lock_by a b ≡ lock_by c d
 two a b c d p q = (λ i. lock_by (p i) (q i))
 

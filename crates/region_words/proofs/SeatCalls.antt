@@ -1,6 +1,6 @@
 -- What the calls of a seat are for a share: from the region in memory before and after to the words of the trait.
-use Rattle.std.proofs.Common.{◌≡◌, ◌≢◌, ℕ, ◌+◌, ◌-◌, ◌≤◌, ◌<◌, Bool, true, false, List, [], ◌∷◌, length, set, refl, sym, subst, ap, ◌∙◌, arith, inl, inr, ◌⊎◌, ◌&&◌, ◌||◌, not}
-use Rattle.std.proofs.lemmas.Bool.Decides.{nat_tests}
+use Rattle.std.proofs.Common.{◌≡◌, ◌≢◌, ℕ, zero, suc, ◌+◌, ◌-◌, ◌≤◌, ◌<◌, Bool, true, false, eqb, List, [], ◌∷◌, ◌++◌, length, set, refl, sym, subst, ap, ◌∙◌, arith, inl, inr, ◌⊎◌, ◌&&◌, ◌||◌, not}
+use Rattle.std.proofs.lemmas.Bool.Decides.{eqb_tells, nat_tests}
 use Rattle.std.specs.Prelude.{Option, Some, None, nat_lt, if◌then◌else◌, Contains}
 use Rattle.lock_rules.specs.Locks.{MayTake}
 use Rattle.lock_rules.specs.declared.table.LockKind.{LockKind}
@@ -8,7 +8,7 @@ use Rattle.lock_rules.specs.declared.table.LockKind.TheVariants.{Shared, Exclusi
 use Rattle.region_words.specs.Past.{region_after, locks_after, has_died, is_death}
 use Rattle.region_words.specs.Lawful.{Lawful}
 use Rattle.region_words.specs.Outside.{one_more}
-use Rattle.region_words.specs.Share.{ShareState, IsSound, IsSameShare, After, Left, Goes, Fails, total, unlock_place, lock_of, places_for, places_kept, made_by, stored, locked, unlocked_by, died, failed, loaded, refused, reserving, unmoved}
+use Rattle.region_words.specs.Share.{ShareState, IsSound, IsSameShare, Counts, most_events, After, Left, Goes, Fails, total, unlock_place, lock_of, places_for, places_kept, made_by, stored, locked, unlocked_by, died, failed, loaded, refused, reserving, unmoved}
 use Rattle.region_words.specs.Local.{Local, Seated, IsLocal, IsAccount, HasPlace, seat_state, account_of, account_after, kept_in, lock_after, reserved_in, with_event, event_of, with_account, called, after_load, after_refusal, after_fault, after_reserve}
 use Rattle.region_words.specs.declared.account.Account.{Account}
 use Rattle.region_words.specs.declared.event.TornWord.{TornWord}
@@ -16,8 +16,8 @@ use Rattle.region_words.specs.declared.event.What.{What}
 use Rattle.region_words.specs.declared.event.What.TheVariants.{Store, Grow, Lock, Unlock, Died}
 use Rattle.region_words.specs.declared.event.Event.{Event}
 use Rattle.region_words.proofs.Totals.{total_same}
-use Rattle.region_words.proofs.LockOf.{lock_other, lock_without, lock_with}
-use Rattle.region_words.proofs.Accounts.{own_account, other_account, each_set}
+use Rattle.region_words.proofs.LockOf.{exclusive_holds, lock_other, lock_without, lock_with}
+use Rattle.region_words.proofs.Accounts.{own_account, other_account, local_account, local_event, held_places, above_none, not_dead, now_dead}
 
 -- the places of an account are those for its opener
 places_are : (past : List Event) (who : ℕ) (a : Account) → IsAccount past who a →
@@ -49,31 +49,202 @@ seat_sound s maker is =
     none : (kept u : ℕ) → kept ≤ 1 + u → kept - (1 + u) ≡ 0
     none kept u p = omega (arith, p)
 
--- one opener's account was changed, and for the others all is as it was
+-- one opener's account is this now, and for the others all is as it was
 pub record Moves (who : ℕ) (l k : Local) (a : Account) : Type 0 where
   pub start : k.start ≡ l.start
-  pub accounts : k.accounts ≡ set l.accounts who a
+  pub own : account_of k.accounts who ≡ a
+  pub others : (w : ℕ) → w ≢ who → account_of k.accounts w ≡ account_of l.accounts w
   pub admitted : a.admitted ≡ (account_of l.accounts who).admitted
   pub locks : (w : ℕ) → w ≢ who → lock_after k.past w ≡ lock_after l.past w
   pub listed : k.failing.listed ≡ l.failing.listed
 
-pub same_share : (who : ℕ) (l k : Local) (a : Account) → who < length l.accounts → Moves who l k a →
+moved_admitted : (who : ℕ) (l k : Local) (a : Account) → Moves who l k a → (w : ℕ) → (account_of k.accounts w).admitted ≡ (account_of l.accounts w).admitted
+moved_admitted who l k a m w = go (eqb_tells w who)
+  where
+    go : ((eqb w who ≡ true) × (w ≡ who)) ⊎ ((eqb w who ≡ false) × (w ≢ who)) → (account_of k.accounts w).admitted ≡ (account_of l.accounts w).admitted
+    go (inl same) = subst (λ v. (account_of k.accounts v).admitted ≡ (account_of l.accounts v).admitted) (sym same.1) (ap (λ (x : Account). x.admitted) m.own ∙ m.admitted)
+    go (inr apart) = ap (λ (x : Account). x.admitted) (m.others w apart.1)
+
+same_share : (who : ℕ) (l k : Local) (a : Account) → Moves who l k a →
     IsSameShare (seat_state (record { who = who; region = l })) (seat_state (record { who = who; region = k }))
-same_share who l k a inside m =
+same_share who l k a m =
     record {
       who = refl;
       alone = refl;
       turnless = refl;
       fails = ap Some m.listed;
       tag = refl;
-      admitted = λ w. ap (λ xs. (account_of xs w).admitted) m.accounts ∙ each_set l.accounts who a (λ v x. x.admitted ≡ (account_of l.accounts v).admitted) inside m.admitted (λ v apart. refl) w;
+      admitted = moved_admitted who l k a m;
       reserved = λ w apart.
-          ap (λ xs. (account_of xs w).kept - (1 + unlock_place (lock_after k.past w))) m.accounts
-          ∙ ap (λ (x : Account). x.kept - (1 + unlock_place (lock_after k.past w))) (other_account l.accounts who w a apart)
+          ap (λ (x : Account). x.kept - (1 + unlock_place (lock_after k.past w))) (m.others w apart)
           ∙ ap (λ o. (account_of l.accounts w).kept - (1 + unlock_place o)) (m.locks w apart);
-      room = λ w apart. ap (λ xs. (account_of xs w).room) m.accounts ∙ ap (λ (x : Account). x.room) (other_account l.accounts who w a apart);
+      room = λ w apart. ap (λ (x : Account). x.room) (m.others w apart);
     }
 
--- what is said of an opener's own account after the change
-pub own_moved : (who : ℕ) (l k : Local) (a : Account) → who < length l.accounts → Moves who l k a → account_of k.accounts who ≡ a
-own_moved who l k a inside m = ap (λ xs. account_of xs who) m.accounts ∙ own_account l.accounts who a inside
+-- the counts of an account
+abbrev counts_of : Account → Counts
+counts_of a = record { faults = a.faults; loads = a.loads; busy = a.busy; turns = 0 }
+
+-- what a call left
+record Leaves (who : ℕ) (l k : Local) (a : Account) (left : Left) : Type 0 where
+  moves : Moves who l k a
+  good : IsLocal k
+  holds : lock_after k.past who ≡ left.holds
+  ended : (not a.admitted || has_died k.past who) ≡ left.ended
+  places : a.kept - (1 + unlock_place (lock_after k.past who)) ≡ left.places
+  room : a.room ≡ left.room
+  counts : counts_of a ≡ left.counts
+  calls : k.failing.made ≡ one_more l.failing.made
+  past : k.past ≡ made_by who left.own ++ ([] ++ l.past)
+
+after_call : (who : ℕ) (l k : Local) (a : Account) (left : Left) → (1 ≤ who) × (who ≤ 64) → Leaves who l k a left →
+    After left (seat_state (record { who = who; region = l })) (seat_state (record { who = who; region = k }))
+after_call who l k a left maker c =
+    record {
+      same = same_share who l k a c.moves;
+      holds = c.holds;
+      ended = ap (λ (x : Account). not x.admitted || has_died k.past who) c.moves.own ∙ c.ended;
+      places = ap (λ (x : Account). x.kept - (1 + unlock_place (lock_after k.past who))) c.moves.own ∙ c.places;
+      room = ap (λ (x : Account). x.room) c.moves.own ∙ c.room;
+      counts = ap counts_of c.moves.own ∙ c.counts;
+      calls = λ _. c.calls;
+      told = record { start = c.moves.start; others = []; by_others = tt; none = λ _. refl; past = c.past };
+      sound = seat_sound (record { who = who; region = k }) maker c.good;
+    }
+
+pub local_called : (l : Local) (fails : Bool) → IsLocal l → IsLocal (called l fails)
+local_called l fails is = record { region = is.region; lawful = is.lawful; accounts = is.accounts; each = is.each; few = is.few }
+
+-- a count moves nothing that an account must keep
+counted : (past : List Event) (who : ℕ) (a b : Account) → IsAccount past who a → b.admitted ≡ a.admitted → b.kept ≡ a.kept → b.room ≡ a.room → IsAccount past who b
+counted past who a b is admitted kept room =
+    record {
+      lives = ap (λ x. x && not (has_died past who)) admitted ∙ is.lives ∙ ap (nat_lt 0) (sym kept);
+      unlocks = λ p. subst (λ n. 1 + unlock_place (lock_after past who) ≤ n) (sym kept) (is.unlocks (omega (arith, p, kept)));
+      idle = λ p. is.idle (sym kept ∙ p);
+      unreserved = λ n. let free = is.unreserved n in (omega (arith, free.0, kept), room ∙ free.1);
+    }
+
+module _ (who : ℕ) (l : Local) (is : IsLocal l) (maker : (1 ≤ who) × (who ≤ 64)) where
+  abbrev s : ShareState
+  s = seat_state (record { who = who; region = l })
+
+  abbrev own : Account
+  own = account_of l.accounts who
+
+  abbrev state_of : Local → ShareState
+  state_of k = seat_state (record { who = who; region = k })
+
+  inside : who < length l.accounts
+  inside = omega (arith, maker.1, is.accounts)
+
+  -- an account that is set
+  moves_set : (k : Local) (a : Account) → k.start ≡ l.start → k.accounts ≡ set l.accounts who a → a.admitted ≡ own.admitted →
+      ((w : ℕ) → w ≢ who → lock_after k.past w ≡ lock_after l.past w) → k.failing.listed ≡ l.failing.listed → Moves who l k a
+  moves_set k a start accounts admitted locks listed =
+      record {
+        start = start;
+        own = ap (λ xs. account_of xs who) accounts ∙ own_account l.accounts who a inside;
+        others = λ w apart. ap (λ xs. account_of xs w) accounts ∙ other_account l.accounts who w a apart;
+        admitted = admitted;
+        locks = locks;
+        listed = listed;
+      }
+
+  -- no event and no count
+  pub after_nothing : After (unmoved s) s (state_of (called l false))
+  after_nothing =
+      after_call who l (called l false) own (unmoved s) maker
+      (record {
+        moves = record { start = refl; own = refl; others = λ w apart. refl; admitted = refl; locks = λ w apart. refl; listed = refl };
+        good = local_called l false is;
+        holds = refl;
+        ended = refl;
+        places = refl;
+        room = refl;
+        counts = refl;
+        calls = refl;
+        past = refl;
+      })
+
+  -- a count alone
+  local_counted : (a : Account) → a.admitted ≡ own.admitted → a.kept ≡ own.kept → a.room ≡ own.room → IsLocal (with_account (called l false) who a)
+  local_counted a admitted kept room =
+      local_account (called l false) (local_called l false is) who a maker.0 maker.1 (counted l.past who own a (is.each who) admitted kept room) (omega (arith, is.few, kept))
+
+  pub after_loading : After (loaded s) s (state_of (with_account (called l false) who (after_load own)))
+  after_loading =
+      let k = with_account (called l false) who (after_load own) in
+      after_call who l k (after_load own) (loaded s) maker
+      (record {
+        moves = moves_set k (after_load own) refl refl refl (λ w apart. refl) refl;
+        good = local_counted (after_load own) refl refl refl;
+        holds = refl;
+        ended = refl;
+        places = refl;
+        room = refl;
+        counts = refl;
+        calls = refl;
+        past = refl;
+      })
+
+  pub after_refusing : After (refused s) s (state_of (with_account (called l false) who (after_refusal own)))
+  after_refusing =
+      let k = with_account (called l false) who (after_refusal own) in
+      after_call who l k (after_refusal own) (refused s) maker
+      (record {
+        moves = moves_set k (after_refusal own) refl refl refl (λ w apart. refl) refl;
+        good = local_counted (after_refusal own) refl refl refl;
+        holds = refl;
+        ended = refl;
+        places = refl;
+        room = refl;
+        counts = refl;
+        calls = refl;
+        past = refl;
+      })
+
+  -- places and room are reserved
+  pub local_reserving : (events size : ℕ) → lock_after l.past who ≡ Some Exclusive → length l.past + kept_in l.accounts + events ≤ most_events →
+      IsLocal (with_account (called l false) who (after_reserve events size own))
+  local_reserving events size exclusive few =
+      let a = after_reserve events size own in
+      let before = is.each who in
+      let living : 0 < own.kept = some_places own.kept refl before exclusive in
+      local_account (called l false) (local_called l false is) who a maker.0 maker.1
+      (record {
+        lives = before.lives ∙ above_none own.kept living ∙ sym (above_none (own.kept + events) (omega (arith, living)));
+        unlocks = λ p. let u = before.unlocks living in omega (arith, u);
+        idle = λ p. absurd (omega (arith, p, living));
+        unreserved = λ n. absurd (n exclusive);
+      })
+      (omega (arith, few))
+    where
+      some_places : (n : ℕ) → own.kept ≡ n → IsAccount l.past who own → lock_after l.past who ≡ Some Exclusive → 0 < own.kept
+      some_places zero e before exclusive = let none = before.idle e in absurd (clash (sym none ∙ exclusive))
+        where
+          clash : None ≡ Some Exclusive → ⊥
+          clash e = cc
+      some_places (suc n) e before exclusive = omega (arith, e)
+
+  pub after_reserving : (events size : ℕ) → lock_after l.past who ≡ Some Exclusive → length l.past + kept_in l.accounts + events ≤ most_events →
+      After (reserving events size s) s (state_of (with_account (called l false) who (after_reserve events size own)))
+  after_reserving events size exclusive few =
+      let k = with_account (called l false) who (after_reserve events size own) in
+      let a = after_reserve events size own in
+      let u : 1 + unlock_place (lock_after l.past who) ≤ own.kept = held_two in
+      after_call who l k a (reserving events size s) maker
+      (record {
+        moves = moves_set k a refl refl refl (λ w apart. refl) refl;
+        good = local_reserving events size exclusive few;
+        holds = refl;
+        ended = refl;
+        places = omega (arith, u);
+        room = refl;
+        counts = refl;
+        calls = refl;
+        past = refl;
+      })
+    where
+      held_two : 1 + unlock_place (lock_after l.past who) ≤ own.kept
+      held_two = subst (λ o. 1 + unlock_place o ≤ own.kept) (sym exclusive) (held_places l.past who own (is.each who) (exclusive_holds (locks_after l.past) who exclusive))
