@@ -12,12 +12,15 @@ use Rattle.region_words.specs.Share.{ShareState, IsSound, IsSameShare, Counts, m
 use Rattle.region_words.specs.Local.{Local, Seated, IsLocal, IsAccount, HasPlace, seat_state, account_of, account_after, kept_in, lock_after, reserved_in, with_event, event_of, with_account, called, after_load, after_refusal, after_fault, after_reserve}
 use Rattle.region_words.specs.declared.account.Account.{Account}
 use Rattle.region_words.specs.declared.event.TornWord.{TornWord}
+use Rattle.region_words.specs.declared.event.Side.{Side}
+use Rattle.region_words.specs.declared.event.Mark.{Mark}
 use Rattle.region_words.specs.declared.event.What.{What}
 use Rattle.region_words.specs.declared.event.What.TheVariants.{Store, Grow, Lock, Unlock, Died}
 use Rattle.region_words.specs.declared.event.Event.{Event}
 use Rattle.region_words.proofs.Totals.{total_same}
 use Rattle.region_words.proofs.LockOf.{exclusive_holds, lock_other, lock_without, lock_with}
-use Rattle.region_words.proofs.Accounts.{own_account, other_account, local_account, local_event, held_places, above_none, not_dead, now_dead}
+use Rattle.region_words.proofs.Accounts.{own_account, other_account, local_account, local_event, held_places, above_none, not_dead, now_dead, free_holds_none}
+use Rattle.region_words.proofs.Permits.{may_die}
 
 -- the places of an account are those for its opener
 places_are : (past : List Event) (who : ℕ) (a : Account) → IsAccount past who a →
@@ -248,3 +251,176 @@ module _ (who : ℕ) (l : Local) (is : IsLocal l) (maker : (1 ≤ who) × (who �
     where
       held_two : 1 + unlock_place (lock_after l.past who) ≤ own.kept
       held_two = subst (λ o. 1 + unlock_place o ≤ own.kept) (sym exclusive) (held_places l.past who own (is.each who) (exclusive_holds (locks_after l.past) who exclusive))
+
+  -- an event of this opener, in a call that was counted
+  local_made : (fails : Bool) (what : What) → Lawful l.start (event_of who what ∷ l.past) → HasPlace l who what → IsLocal (with_event (called l fails) who what)
+  local_made fails what lawful place =
+      local_event (called l fails) (local_called l fails is) who what maker.0 maker.1 lawful (record { kept = place.kept; room = place.room })
+
+  moves_made : (fails : Bool) (what : What) (a : Account) → a ≡ account_after what own → a.admitted ≡ own.admitted → Lawful l.start (event_of who what ∷ l.past) →
+      Moves who l (with_event (called l fails) who what) a
+  moves_made fails what a same admitted lawful =
+      moves_set (with_event (called l fails) who what) a refl (ap (set l.accounts who) (sym same)) admitted
+      (λ w apart. lock_other (region_after l.start l.past) (locks_after l.past) who w what apart lawful.1.possible) refl
+
+  alive_still : (what : What) → is_death what ≡ false → (not own.admitted || has_died (event_of who what ∷ l.past) who) ≡ (not own.admitted || has_died l.past who)
+  alive_still what quiet = ap (λ d. not own.admitted || d) (not_dead l.past who what quiet)
+
+  one_less : (kept u : ℕ) → kept - 1 - (1 + u) ≡ kept - (1 + u) - 1
+  one_less kept u = omega arith
+
+  pub after_store : (side : Side) (word value : ℕ) (mark : Mark) → let what = Store side word value mark in
+      Lawful l.start (event_of who what ∷ l.past) → 0 < reserved_in l who → After (stored what s) s (state_of (with_event (called l false) who what))
+  after_store side word value mark lawful place =
+      let what = Store side word value mark in
+      let k = with_event (called l false) who what in
+      let a = account_after what own in
+      after_call who l k a (stored what s) maker
+      (record {
+        moves = moves_made false what a refl refl lawful;
+        good = local_made false what lawful (record { kept = place; room = tt });
+        holds = refl;
+        ended = alive_still what refl;
+        places = one_less own.kept (unlock_place (lock_after l.past who));
+        room = refl;
+        counts = refl;
+        calls = refl;
+        past = refl;
+      })
+
+  pub after_grow : (size : ℕ) → Lawful l.start (event_of who (Grow size) ∷ l.past) → 0 < reserved_in l who →
+      After (stored (Grow size) s) s (state_of (with_event (called l false) who (Grow size)))
+  after_grow size lawful place =
+      let what = Grow size in
+      let k = with_event (called l false) who what in
+      let a = account_after what own in
+      after_call who l k a (stored what s) maker
+      (record {
+        moves = moves_made false what a refl refl lawful;
+        good = local_made false what lawful (record { kept = place; room = tt });
+        holds = refl;
+        ended = alive_still what refl;
+        places = one_less own.kept (unlock_place (lock_after l.past who));
+        room = refl;
+        counts = refl;
+        calls = refl;
+        past = refl;
+      })
+
+  pub after_lock : (kind : LockKind) → MayTake (locks_after l.past) who kind → Lawful l.start (event_of who (Lock kind) ∷ l.past) → HasPlace l who (Lock kind) →
+      After (locked kind s) s (state_of (with_event (called l false) who (Lock kind)))
+  after_lock kind may lawful place =
+      let what = Lock kind in
+      let k = with_event (called l false) who what in
+      let a = account_after what own in
+      let now : lock_after k.past who ≡ Some kind = lock_with (locks_after l.past) who kind may in
+      let before : lock_after l.past who ≡ None = free_holds_none (locks_after l.past) who kind may in
+      after_call who l k a (locked kind s) maker
+      (record {
+        moves = moves_made false what a refl refl lawful;
+        good = local_made false what lawful place;
+        holds = now;
+        ended = alive_still what refl;
+        places = ap (λ o. own.kept + 1 - (1 + unlock_place o)) now ∙ two_more own.kept ∙ sym (ap (λ o. own.kept - (1 + unlock_place o)) before);
+        room = refl;
+        counts = refl;
+        calls = refl;
+        past = refl;
+      })
+    where
+      two_more : (n : ℕ) → n + 1 - (1 + 1) ≡ n - (1 + 0)
+      two_more n = omega arith
+
+  pub after_unlock : Lawful l.start (event_of who Unlock ∷ l.past) → After (unlocked_by s) s (state_of (with_event (called l false) who Unlock))
+  after_unlock lawful =
+      let k = with_event (called l false) who Unlock in
+      let a = account_after Unlock own in
+      let now : lock_after k.past who ≡ None = lock_without (locks_after l.past) who in
+      after_call who l k a (unlocked_by s) maker
+      (record {
+        moves = moves_made false Unlock a refl refl lawful;
+        good = local_made false Unlock lawful (record { kept = tt; room = tt });
+        holds = now;
+        ended = alive_still Unlock refl;
+        places = ap (λ o. 1 - (1 + unlock_place o)) now;
+        room = refl;
+        counts = refl;
+        calls = refl;
+        past = refl;
+      })
+
+  or_true : (b : Bool) → (b || true) ≡ true
+  or_true true = refl
+  or_true false = refl
+
+  pub after_death : (torn : Option TornWord) → Lawful l.start (event_of who (Died torn) ∷ l.past) → 0 < own.kept →
+      After (died torn s) s (state_of (with_event (called l false) who (Died torn)))
+  after_death torn lawful place =
+      let k = with_event (called l false) who (Died torn) in
+      let a = account_after (Died torn) own in
+      let now : lock_after k.past who ≡ None = lock_without (locks_after l.past) who in
+      after_call who l k a (died torn s) maker
+      (record {
+        moves = moves_made false (Died torn) a refl refl lawful;
+        good = local_made false (Died torn) lawful (record { kept = place; room = tt });
+        holds = now;
+        ended = ap (λ d. not own.admitted || d) (now_dead l.past who (Died torn) refl) ∙ or_true (not own.admitted);
+        places = ap (λ o. 0 - (1 + unlock_place o)) now;
+        room = refl;
+        counts = refl;
+        calls = refl;
+        past = refl;
+      })
+
+  -- who isn't ended lives, and has a place for its death
+  pub living : s.ended ≡ false → (has_died l.past who ≡ false) × (0 < own.kept)
+  living e =
+      let both = split own.admitted (has_died l.past who) e in
+      let lives : nat_lt 0 own.kept ≡ true = sym (is.each who).lives ∙ alive own.admitted (has_died l.past who) both.0 both.1 in
+      (both.1, grind (arith, nat_tests))
+    where
+      split : (a d : Bool) → (not a || d) ≡ false → (a ≡ true) × (d ≡ false)
+      split true true e = absurd cc
+      split true false e = (refl, refl)
+      split false d e = absurd cc
+
+      alive : (a d : Bool) → a ≡ true → d ≡ false → (a && not d) ≡ true
+      alive a d p q = cc
+
+  -- a call that fails: the opener's death, and one fault more
+  abbrev pub after_failing : Local
+  after_failing =
+      let k = with_event (called l true) who (Died None) in
+      with_account k who (after_fault (account_of k.accounts who))
+
+  pub after_failure : s.ended ≡ false → After (failed s) s (state_of after_failing)
+  after_failure e =
+      let live = living e in
+      let lawful = may_die l.start l.past who is.lawful maker live.0 in
+      let k = with_event (called l true) who (Died None) in
+      let a = account_after (Died None) own in
+      let good = local_made true (Died None) lawful (record { kept = live.1; room = tt }) in
+      let first : Moves who l k a = moves_made true (Died None) a refl refl lawful in
+      let b = after_fault (account_of k.accounts who) in
+      let same : b ≡ after_fault a = ap after_fault first.own in
+      let size : who < length k.accounts = omega (arith, maker.1, good.accounts) in
+      let now : lock_after k.past who ≡ None = lock_without (locks_after l.past) who in
+      after_call who l after_failing (after_fault a) (failed s) maker
+      (record {
+        moves = record {
+          start = refl;
+          own = own_account k.accounts who b size ∙ same;
+          others = λ w apart. other_account k.accounts who w b apart ∙ first.others w apart;
+          admitted = refl;
+          locks = first.locks;
+          listed = refl;
+        };
+        good = local_account k good who b maker.0 maker.1 (counted k.past who (account_of k.accounts who) b (good.each who) refl refl refl) (omega (arith, good.few));
+        holds = now;
+        ended = ap (λ d. not own.admitted || d) (now_dead l.past who (Died None) refl) ∙ or_true (not own.admitted);
+        places = ap (λ o. 0 - (1 + unlock_place o)) now;
+        room = refl;
+        counts = refl;
+        calls = refl;
+        past = refl;
+      })
