@@ -1,4 +1,9 @@
 // The table of holders.
+ghost use Rattle.std.specs.Prelude.{◌≡◌, ◌↔◌, ℕ, ◌<◌, ◌≤◌, false, true, IfSome, IfNone};
+ghost use Rattle.lock_rules.specs.Locks.{Locks, IsSound, holds, unlocked, MayTake, with_lock, without_holder, IsLeastAgainst};
+ghost use Rattle.lock_rules.specs.Holders.{AreHolders, holders_of};
+ghost use Rattle.std.specs.FinSet as set;
+
 use std::marker::Model;
 
 /// The two kinds of lock.
@@ -18,18 +23,121 @@ pub enum Tried {
 /// The holders, numbers 1 to 64.
 #[derive(Drop)]
 pub struct LockTable {
-    shared: Vec<u32>,
+    // bit h - 1 says whether h holds shared
+    shared: u64,
     exclusive: Option<u32>,
 }
 
 impl Model for LockTable {
     ghost use Rattle.lock_rules.specs.Locks.{Locks, locks_code};
+    ghost use Rattle.lock_rules.specs.Holders.{holders_of, IsApart};
 
     ghost Value = { Locks };
 
     ghost coded = { locks_code };
 
-    ghost use Rattle.std.specs.FinSet as set;
+    ghost view = { λ a. record { shared = holders_of a.shared; exclusive = a.exclusive } };
 
-    ghost view = { λ a. record { shared = set.from_list a.shared.items; exclusive = a.exclusive } };
+    ghost invariant = { λ a. IsApart a.shared a.exclusive };
+}
+
+impl LockTable {
+    /// Nobody holds the lock.
+    pub fn new() -> LockTable
+        ensures value { result ≡ unlocked }
+        ensures sound { IsSound result }
+        ensures within { AreHolders result }
+    {
+        LockTable {
+            shared: 0,
+            exclusive: None,
+        }
+    }
+
+    /// Takes the lock for an opener that holds nothing, unless another stands against it.
+    pub fn try_take(&mut self, who: u32, kind: LockKind) -> Tried
+        requires least { 1 ≤ who }
+        requires most { who ≤ 64 }
+        requires free { holds self.old who ≡ false }
+
+        ensures taken { (result ≡ Tried.Taken) ↔ MayTake self.old who kind }
+        ensures busy { (h : ℕ) → (result ≡ Tried.Busy h) ↔ IsLeastAgainst self.old who kind h }
+        ensures after { result ≡ Tried.Taken → self.new ≡ with_lock self.old who kind }
+        ensures same { (h : ℕ) → result ≡ Tried.Busy h → self.new ≡ self.old }
+        ensures sound { IsSound self.new }
+        ensures within { AreHolders self.new }
+    {
+        if let Some(holder) = self.against(kind) {
+            return Tried::Busy(holder);
+        }
+        match kind {
+            LockKind::Shared => self.shared = with_bit(self.shared, who),
+            LockKind::Exclusive => self.exclusive = Some(who),
+        }
+        Tried::Taken
+    }
+
+    /// Gives up what this holder holds.
+    pub fn give_up(&mut self, who: u32)
+        requires { holds self.old who ≡ true }
+        ensures after { self.new ≡ without_holder self.old who }
+        ensures sound { IsSound self.new }
+        ensures within { AreHolders self.new }
+    {
+        self.died(who);
+    }
+
+    /// Takes away what this opener holds, if anything.
+    pub fn died(&mut self, who: u32)
+        ensures after { self.new ≡ without_holder self.old who }
+        ensures sound { IsSound self.new }
+        ensures within { AreHolders self.new }
+    {
+        self.shared = without_bit(self.shared, who);
+        if self.exclusive == Some(who) {
+            self.exclusive = None;
+        }
+    }
+
+    // The least holder against a try by one that holds nothing.
+    fn against(&self, kind: LockKind) -> Option<u32>
+        ensures some { IfSome result (λ h. (who : ℕ) → holds self.now who ≡ false → IsLeastAgainst self.now who kind h) }
+        ensures none { IfNone result ((who : ℕ) → holds self.now who ≡ false → MayTake self.now who kind) }
+    {
+        match kind {
+            LockKind::Shared => self.exclusive,
+            LockKind::Exclusive if self.shared != 0 => Some(least_of(self.shared)),
+            LockKind::Exclusive => self.exclusive,
+        }
+    }
+}
+
+// These bits and that of one more holder.
+fn with_bit(bits: u64, who: u32) -> u64
+    requires least { 1 ≤ who }
+    requires most { who ≤ 64 }
+    ensures { holders_of result ≡ set.insert (holders_of bits) who }
+{
+    bits | (1 << (who - 1))
+}
+
+// These bits without that of a holder, if it is one.
+fn without_bit(bits: u64, who: u32) -> u64
+    ensures after { holders_of result ≡ set.remove (holders_of bits) who }
+    ensures none { bits ≡ 0 → result ≡ 0 }
+{
+    if 1 <= who && who <= 64 {
+        bits & !(1 << (who - 1))
+    } else {
+        bits
+    }
+}
+
+// The least of the holders whose bits are set.
+fn least_of(bits: u64) -> u32
+    requires { 0 < bits }
+    ensures held { set.contains (holders_of bits) result ≡ true }
+    ensures least { (h : ℕ) → set.contains (holders_of bits) h ≡ true → result ≤ h }
+{
+    bits.trailing_zeros() + 1
 }
