@@ -13,13 +13,13 @@ use Rattle.region_words.specs.Region.{Region}
 use Rattle.region_words.specs.Past.{region_after, locks_after, locks_step, has_died, is_death}
 use Rattle.region_words.specs.Lawful.{Lawful, IsPossible}
 use Rattle.region_words.specs.Share.{lock_of, unlock_place, total, most_events}
-use Rattle.region_words.specs.Local.{Local, IsLocal, IsAccount, IsKeptFor, HasRoomFor, HasPlace, account_of, no_account, account_after, kept_in, lock_after, reserved_in, with_event, event_of, with_account}
+use Rattle.region_words.specs.Local.{Local, IsLocal, IsAccount, IsKeptFor, HasRoomFor, HasPlace, account_of, no_account, account_after, kept_in, lock_after, reserved_in, with_event, event_of, with_account, after_admission, after_reserve}
 use Rattle.region_words.specs.declared.account.Account.{Account}
 use Rattle.region_words.specs.declared.event.What.{What}
 use Rattle.region_words.specs.declared.event.What.TheVariants.{Store, Grow, Lock, Unlock, Died}
 use Rattle.region_words.specs.declared.event.Event.{Event}
 use Rattle.region_words.proofs.Totals.{total_set, total_same}
-use Rattle.region_words.proofs.LockOf.{holds_none, none_holds, holds_some, is_exclusive, lock_other, lock_without, lock_with, died_other}
+use Rattle.region_words.proofs.LockOf.{exclusive_holds, holds_none, none_holds, holds_some, is_exclusive, lock_other, lock_without, lock_with, died_other}
 
 pub own_account : (accounts : List Account) (who : ℕ) (a : Account) → who < length accounts → account_of (set accounts who a) who ≡ a
 own_account accounts who a inside = get_or-set_same accounts who a no_account inside
@@ -45,12 +45,16 @@ kept_set accounts who a least most len =
     (λ w apart. ap (λ (x : Account). x.kept) (other_account accounts who w a apart))
     ∙ ap (λ n. kept_in accounts + n) own
 
+pub above_none : (n : ℕ) → 0 < n → nat_lt 0 n ≡ true
+above_none n p = grind (arith, nat_tests)
+
 -- an event of another leaves an account alone
 account_other : (past : List Event) (e : Event) (w : ℕ) (a : Account) → has_died (e ∷ past) w ≡ has_died past w → lock_after (e ∷ past) w ≡ lock_after past w →
     IsAccount past w a → IsAccount (e ∷ past) w a
 account_other past e w a died lock is =
     record {
       lives = ap (λ d. a.admitted && not d) died ∙ is.lives;
+      fresh = λ n. died ∙ is.fresh n;
       unlocks = λ p. subst (λ k. 1 + unlock_place k ≤ a.kept) (sym lock) (is.unlocks p);
       idle = λ p. lock ∙ is.idle p;
       unreserved = λ n.
@@ -70,9 +74,6 @@ not_dead past who what e = go (who == who) (is_death what) e
 pub now_dead : (past : List Event) (who : ℕ) (what : What) → is_death what ≡ true → has_died (event_of who what ∷ past) who ≡ true
 now_dead past who what e = let same : (who == who) ≡ true = grind (arith, nat_tests) in rw (same, e) refl
 
-pub above_none : (n : ℕ) → 0 < n → nat_lt 0 n ≡ true
-above_none n p = grind (arith, nat_tests)
-
 -- who may take a lock holds none
 pub free_holds_none : (locks : Locks) (who : ℕ) (kind : LockKind) → MayTake locks who kind → lock_of locks who ≡ None
 free_holds_none locks who Shared may = none_holds locks who may.0
@@ -84,8 +85,15 @@ free_holds_none locks who Exclusive may =
     both : {a b : Bool} → a ≡ false → b ≡ false → (a || b) ≡ false
     both p q = cc
 
-has_more : (kept u : ℕ) → 0 < kept - (1 + u) → 1 + u < kept
+pub has_more : (kept u : ℕ) → 0 < kept - (1 + u) → 1 + u < kept
 has_more kept u p = omega (arith, p)
+
+-- who has places was admitted
+pub admitted_by : (past : List Event) (who : ℕ) (a : Account) → IsAccount past who a → 0 < a.kept → a.admitted ≡ false → ⊥
+admitted_by past who a is p n =
+    let none : nat_lt 0 a.kept ≡ false = sym is.lives ∙ ap (λ x. x && not (has_died past who)) n in
+    let some = above_none a.kept p in
+    cc
 
 -- a holder has a place for its death and one for its unlock
 pub held_places : (past : List Event) (who : ℕ) (a : Account) → IsAccount past who a → IsTrue (holds (locks_after past) who) → 2 ≤ a.kept
@@ -105,6 +113,7 @@ module _ (r : Region) (past : List Event) (who : ℕ) (a : Account) (is : IsAcco
       let more = has_more a.kept (unlock_place (lock_after past who)) place in
       record {
         lives = ap (λ d. a.admitted && not d) (not_dead past who what quiet) ∙ is.lives ∙ above_none a.kept (omega (arith, more)) ∙ sym (above_none (a.kept - 1) (omega (arith, more)));
+        fresh = λ n. absurd (admitted_by past who a is (omega (arith, more)) n);
         unlocks = λ p. subst (λ k. 1 + unlock_place k ≤ a.kept - 1) (sym lock) (omega (arith, more));
         idle = λ p. absurd (omega (arith, p, more));
         unreserved = λ n. absurd (n (lock ∙ exclusive));
@@ -122,6 +131,7 @@ module _ (r : Region) (past : List Event) (who : ℕ) (a : Account) (is : IsAcco
       let least = subst (λ k. a.kept ≤ 1 + unlock_place k) before free.0 in
       record {
         lives = ap (λ d. a.admitted && not d) (not_dead past who (Lock kind) refl) ∙ is.lives ∙ above_none a.kept place ∙ sym (above_none (a.kept + 1) (omega (arith, place)));
+        fresh = λ n. absurd (admitted_by past who a is place n);
         unlocks = λ p. subst (λ k. 1 + unlock_place k ≤ a.kept + 1) (sym now) (omega (arith, place));
         idle = λ p. absurd (omega (arith, p));
         unreserved = λ n. (subst (λ k. a.kept + 1 ≤ 1 + unlock_place k) (sym now) (omega (arith, least)), free.1);
@@ -134,6 +144,7 @@ module _ (r : Region) (past : List Event) (who : ℕ) (a : Account) (is : IsAcco
       let held : 0 < a.kept = omega (arith, held_places past who a is possible) in
       record {
         lives = ap (λ d. a.admitted && not d) (not_dead past who Unlock refl) ∙ is.lives ∙ above_none a.kept held;
+        fresh = λ n. absurd (admitted_by past who a is held n);
         unlocks = λ p. subst (λ k. 1 + unlock_place k ≤ 1) (sym now) (omega arith);
         idle = λ p. absurd cc;
         unreserved = λ n. (subst (λ k. 1 ≤ 1 + unlock_place k) (sym now) (omega arith), refl);
@@ -142,6 +153,7 @@ module _ (r : Region) (past : List Event) (who : ℕ) (a : Account) (is : IsAcco
       let now : lock_after (event_of who (Died torn) ∷ past) who ≡ None = lock_without (locks_after past) who in
       record {
         lives = ap (λ d. a.admitted && not d) (now_dead past who (Died torn) refl) ∙ none a.admitted;
+        fresh = λ n. absurd (admitted_by past who a is place n);
         unlocks = λ p. absurd (omega (arith, p));
         idle = λ p. now;
         unreserved = λ n. (omega arith, refl);
@@ -199,3 +211,51 @@ local_account l is who a least most good few =
       each = each_set l.accounts who a (λ w x. IsAccount l.past w x) (omega (arith, most, is.accounts)) good (λ w apart. is.each w);
       few = omega (arith, few, kept_set l.accounts who a least most is.accounts);
     }
+
+-- a count moves nothing that an account must keep
+pub counted : (past : List Event) (who : ℕ) (a b : Account) → IsAccount past who a → b.admitted ≡ a.admitted → b.kept ≡ a.kept → b.room ≡ a.room → IsAccount past who b
+counted past who a b is admitted kept room =
+    record {
+      lives = ap (λ x. x && not (has_died past who)) admitted ∙ is.lives ∙ ap (nat_lt 0) (sym kept);
+      fresh = λ n. is.fresh (sym admitted ∙ n);
+      unlocks = λ p. subst (λ n. 1 + unlock_place (lock_after past who) ≤ n) (sym kept) (is.unlocks (omega (arith, p, kept)));
+      idle = λ p. is.idle (sym kept ∙ p);
+      unreserved = λ n. let free = is.unreserved n in (omega (arith, free.0, kept), room ∙ free.1);
+    }
+
+-- an opener that is admitted
+pub admitted_account : (past : List Event) (who : ℕ) (a : Account) → IsAccount past who a → a.admitted ≡ false →
+    (a.kept ≡ 0) × IsAccount past who (after_admission a)
+admitted_account past who a is new =
+    let none : nat_lt 0 a.kept ≡ false = sym is.lives ∙ ap (λ x. x && not (has_died past who)) new in
+    let zero_kept : a.kept ≡ 0 = grind (arith, nat_tests) in
+    let lock : lock_after past who ≡ None = is.idle zero_kept in
+    let free = is.unreserved (λ e. clash (sym lock ∙ e)) in (
+      zero_kept,
+      record {
+        lives = ap not (is.fresh new);
+        fresh = λ n. absurd cc;
+        unlocks = λ p. subst (λ k. 1 + unlock_place k ≤ 1) (sym lock) (omega arith);
+        idle = λ p. absurd cc;
+        unreserved = λ n. (subst (λ k. 1 ≤ 1 + unlock_place k) (sym lock) (omega arith), free.1);
+      },
+    )
+  where
+    clash : None ≡ Some Exclusive → ⊥
+    clash e = cc
+
+-- more is reserved for the holder
+pub reserved_account : (past : List Event) (who : ℕ) (a : Account) (events size : ℕ) → IsAccount past who a → lock_after past who ≡ Some Exclusive →
+    (0 < a.kept) × IsAccount past who (after_reserve events size a)
+reserved_account past who a events size is exclusive =
+    let some = held_places past who a is (exclusive_holds (locks_after past) who exclusive) in
+    let living : 0 < a.kept = omega (arith, some) in (
+      living,
+      record {
+        lives = is.lives ∙ above_none a.kept living ∙ sym (above_none (a.kept + events) (omega (arith, living)));
+        fresh = λ n. is.fresh n;
+        unlocks = λ p. let u = is.unlocks living in omega (arith, u);
+        idle = λ p. absurd (omega (arith, p, living));
+        unreserved = λ n. absurd (n exclusive);
+      },
+    )

@@ -2,7 +2,7 @@
 use Rattle.std.proofs.Common.{◌≡◌, ◌≢◌, ℕ, Bool, true, false, List, [], ◌∷◌, refl, sym, ap, ◌∙◌, inl, inr, ◌⊎◌, arith, ◌&&◌, ◌||◌, not, cond}
 use Rattle.std.specs.Prelude.{Option, Some, None, IsTrue, ◌==◌, if◌then◌else◌}
 use Rattle.std.specs.Option.{option_map_or}
-use Rattle.std.specs.Ordering.{nat_cmp}
+use Rattle.std.specs.Ordering.{nat_cmp, eq_by_cmp}
 use Rattle.std.specs.Cmp.{nat_cmp_total}
 use Rattle.std.specs.FinSet as set
 use Rattle.std.proofs.lemmas.Bool.Decides.{nat_tests}
@@ -122,3 +122,23 @@ lock_at_first who = two false _ false false refl (set.contains-empty nat_cmp who
 -- who dies has died, and nobody else
 pub died_other : (e : Event) (past : List Event) (w : ℕ) → w ≢ e.who → has_died (e ∷ past) w ≡ has_died past w
 died_other e past w n = let other : (e.who == w) ≡ false = grind (arith, nat_tests) in rw other refl
+
+remove_absent : (s : set.FinSet nat_cmp) (who : ℕ) → set.contains s who ≡ false → set.remove s who ≡ s
+remove_absent s who none = set.same_set nat_cmp_total set.nat_cmp-IsAntisymmetric (set.remove s who) s (λ q. set.contains-remove nat_cmp_total s who q ∙ grind (arith, nat_tests))
+
+-- a lock that was taken and given up leaves what stood before
+pub taken_back : (locks : Locks) (who : ℕ) (kind : LockKind) → MayTake locks who kind → holds locks who ≡ false → without_holder (with_lock locks who kind) who ≡ locks
+taken_back locks who Shared may free =
+    let out : set.contains locks.shared who ≡ false = right (holds_exclusive locks who) (set.contains locks.shared who) free in
+    let back : set.remove (set.insert locks.shared who) who ≡ locks.shared =
+    set.same_set nat_cmp_total set.nat_cmp-IsAntisymmetric (set.remove (set.insert locks.shared who) who) locks.shared
+    (λ q. set.contains-remove nat_cmp_total (set.insert locks.shared who) who q ∙ ap (λ b. not (eq_by_cmp nat_cmp q who) && b) (set.contains-insert nat_cmp_total locks.shared who q) ∙ grind (arith, nat_tests)) in
+    (λ i. record { shared = back i; exclusive = (ap (λ o. option_map_or (λ h. if h == who then None else Some h) o None) may.1 ∙ sym may.1) i })
+  where
+    right : (a b : Bool) → (a || b) ≡ false → b ≡ false
+    right true b e = absurd cc
+    right false b e = e
+taken_back locks who Exclusive may free =
+    let out : set.contains locks.shared who ≡ false = ap (λ m. set.contains m who) may.0 ∙ set.contains-empty nat_cmp who in
+    let here : (who == who) ≡ true = grind (arith, nat_tests) in
+    (λ i. record { shared = remove_absent locks.shared who out i; exclusive = (ap (λ b. if b then None else Some who) here ∙ sym may.1) i })

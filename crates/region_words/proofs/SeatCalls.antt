@@ -19,7 +19,7 @@ use Rattle.region_words.specs.declared.event.What.TheVariants.{Store, Grow, Lock
 use Rattle.region_words.specs.declared.event.Event.{Event}
 use Rattle.region_words.proofs.Totals.{total_same}
 use Rattle.region_words.proofs.LockOf.{exclusive_holds, lock_other, lock_without, lock_with}
-use Rattle.region_words.proofs.Accounts.{own_account, other_account, local_account, local_event, held_places, above_none, not_dead, now_dead, free_holds_none}
+use Rattle.region_words.proofs.Accounts.{own_account, other_account, local_account, local_event, held_places, above_none, not_dead, now_dead, free_holds_none, counted, reserved_account}
 use Rattle.region_words.proofs.Permits.{may_die}
 
 -- the places of an account are those for its opener
@@ -118,16 +118,6 @@ after_call who l k a left maker c =
 pub local_called : (l : Local) (fails : Bool) → IsLocal l → IsLocal (called l fails)
 local_called l fails is = record { region = is.region; lawful = is.lawful; accounts = is.accounts; each = is.each; few = is.few }
 
--- a count moves nothing that an account must keep
-counted : (past : List Event) (who : ℕ) (a b : Account) → IsAccount past who a → b.admitted ≡ a.admitted → b.kept ≡ a.kept → b.room ≡ a.room → IsAccount past who b
-counted past who a b is admitted kept room =
-    record {
-      lives = ap (λ x. x && not (has_died past who)) admitted ∙ is.lives ∙ ap (nat_lt 0) (sym kept);
-      unlocks = λ p. subst (λ n. 1 + unlock_place (lock_after past who) ≤ n) (sym kept) (is.unlocks (omega (arith, p, kept)));
-      idle = λ p. is.idle (sym kept ∙ p);
-      unreserved = λ n. let free = is.unreserved n in (omega (arith, free.0, kept), room ∙ free.1);
-    }
-
 module _ (who : ℕ) (l : Local) (is : IsLocal l) (maker : (1 ≤ who) × (who ≤ 64)) where
   abbrev s : ShareState
   s = seat_state (record { who = who; region = l })
@@ -212,23 +202,7 @@ module _ (who : ℕ) (l : Local) (is : IsLocal l) (maker : (1 ≤ who) × (who �
       IsLocal (with_account (called l false) who (after_reserve events size own))
   local_reserving events size exclusive few =
       let a = after_reserve events size own in
-      let before = is.each who in
-      let living : 0 < own.kept = some_places own.kept refl before exclusive in
-      local_account (called l false) (local_called l false is) who a maker.0 maker.1
-      (record {
-        lives = before.lives ∙ above_none own.kept living ∙ sym (above_none (own.kept + events) (omega (arith, living)));
-        unlocks = λ p. let u = before.unlocks living in omega (arith, u);
-        idle = λ p. absurd (omega (arith, p, living));
-        unreserved = λ n. absurd (n exclusive);
-      })
-      (omega (arith, few))
-    where
-      some_places : (n : ℕ) → own.kept ≡ n → IsAccount l.past who own → lock_after l.past who ≡ Some Exclusive → 0 < own.kept
-      some_places zero e before exclusive = let none = before.idle e in absurd (clash (sym none ∙ exclusive))
-        where
-          clash : None ≡ Some Exclusive → ⊥
-          clash e = cc
-      some_places (suc n) e before exclusive = omega (arith, e)
+      local_account (called l false) (local_called l false is) who a maker.0 maker.1 (reserved_account l.past who own events size (is.each who) exclusive).1 (omega (arith, few))
 
   pub after_reserving : (events size : ℕ) → lock_after l.past who ≡ Some Exclusive → length l.past + kept_in l.accounts + events ≤ most_events →
       After (reserving events size s) s (state_of (with_account (called l false) who (after_reserve events size own)))

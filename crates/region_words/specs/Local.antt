@@ -2,16 +2,20 @@
 use Rattle.std.specs.Prelude.{◌≡◌, ◌≢◌, ℕ, ◌+◌, ◌-◌, ◌<◌, ◌≤◌, Bool, true, false, List, [], ◌∷◌, length, replicate, Option, Some, None, not, ◌&&◌, ◌||◌, nat_lt, max, slice_index_or, slice_set, if◌then◌else◌, ⊤}
 use base.Stored.{coded_ℕ}
 use Rattle.kv_pairs.specs.Growth.{largest}
-use Rattle.lock_rules.specs.Locks.{Locks}
+use Rattle.lock_rules.specs.Locks.{Locks, MayTake, IsLeastAgainst}
+use Rattle.lock_rules.specs.declared.table.Tried.{Tried}
+use Rattle.lock_rules.specs.declared.table.Tried.TheVariants.{Taken, Busy}
 use Rattle.lock_rules.specs.declared.table.LockKind.{LockKind}
 use Rattle.lock_rules.specs.declared.table.LockKind.TheVariants.{Exclusive}
 use Rattle.region_words.specs.Region.{Region, IsRegion}
-use Rattle.region_words.specs.Past.{locks_after, has_died}
+use Rattle.region_words.specs.Past.{region_after, changes_of, locks_after, has_died}
 use Rattle.region_words.specs.Lawful.{Lawful}
 use Rattle.region_words.specs.Outside.{Tally, one_more, after_call}
 use Rattle.region_words.specs.Stores.{filled_up}
 use Rattle.region_words.specs.Share.{ShareState, most_events, total, unlock_place, lock_of}
 use Rattle.region_words.specs.declared.account.Account.{Account}
+use Rattle.region_words.specs.declared.places.AdmitStop.{AdmitStop}
+use Rattle.region_words.specs.Places.{LacksRoom}
 use Rattle.region_words.specs.declared.event.What.{What}
 use Rattle.region_words.specs.declared.event.What.TheVariants.{Store, Grow, Lock, Unlock, Died}
 use Rattle.region_words.specs.declared.event.Event.{Event}
@@ -47,6 +51,7 @@ reserved_in l who = (account_of l.accounts who).kept - (1 + unlock_place (lock_a
 pub record IsAccount (past : List Event) (who : ℕ) (a : Account) : Type 0 where
   -- an opener has places as long as it lives
   pub lives : (a.admitted && not (has_died past who)) ≡ nat_lt 0 a.kept
+  pub fresh : a.admitted ≡ false → has_died past who ≡ false
   pub unlocks : 0 < a.kept → 1 + unlock_place (lock_after past who) ≤ a.kept
   pub idle : a.kept ≡ 0 → lock_after past who ≡ None
   -- only who holds exclusive has more, or room
@@ -151,3 +156,39 @@ seat_state s =
       counts = record { faults = a.faults; loads = a.loads; busy = a.busy; turns = 0 };
       tag = coded_ℕ.code 0;
     }
+
+-- what the fields of a region in memory say: the bytes and the locks are those after the events, and there is memory for the places kept
+pub record Keeps (l : Local) (body meta : List ℕ) (locks : Locks) (kept changes places room : ℕ) : Type 0 where
+  pub good : IsLocal l
+  pub data_is : body ≡ (region_after l.start l.past).data_bytes
+  pub meta_is : meta ≡ (region_after l.start l.past).meta_bytes
+  pub locks_are : locks ≡ locks_after l.past
+  pub kept_is : kept ≡ kept_in l.accounts
+  pub changes_are : changes ≡ length (changes_of l.past)
+  -- the journal has memory for so many events, and the data file for so many bytes
+  pub places_for_all : length l.past + kept ≤ places
+  pub room_for_each : (who : ℕ) → (account_of l.accounts who).room ≤ room
+
+-- a growth has room
+abbrev pub HasRoomToGrow : Local → ℕ → What → Type 0
+HasRoomToGrow l who (Grow size) = size ≤ (account_of l.accounts who).room
+HasRoomToGrow l who _ = ⊤
+
+-- why so many places more aren't kept
+abbrev pub LacksPlaces : Local → ℕ → AdmitStop → Type 0
+LacksPlaces l asked = LacksRoom (length l.past + kept_in l.accounts + asked)
+
+-- the account of an opener that was admitted
+abbrev pub after_admission : Account → Account
+after_admission a = record a { admitted = true; kept = 1 }
+
+-- the event takes a place that is kept
+abbrev pub TakesPlace : Local → ℕ → What → Type 0
+TakesPlace l who (Lock kind) = ⊥
+TakesPlace l who what = IsKeptFor (account_of l.accounts who) (lock_after l.past who) what
+
+-- a try for the lock: it is taken, and there were places, or the least holder stands against it
+abbrev pub TriedIn : Local → Local → ℕ → LockKind → Tried → Type 0
+TriedIn old new who kind Taken =
+    (new ≡ with_event old who (Lock kind)) × MayTake (locks_after old.past) who kind × (length old.past + kept_in old.accounts + 2 ≤ most_events)
+TriedIn old new who kind (Busy holder) = (new ≡ old) × IsLeastAgainst (locks_after old.past) who kind holder

@@ -1,6 +1,8 @@
 // What a region in memory keeps for one opener, and counts of it.
-ghost use Rattle.std.specs.Prelude.{◌≡◌};
-ghost use Rattle.region_words.specs.Local.{no_account};
+ghost use Rattle.std.specs.Prelude.{◌≡◌, ◌⊎◌, ◌<◌, ◌+◌, ◌^◌};
+ghost use Rattle.region_words.specs.Local.{account_after, no_account};
+
+use crate::event::What;
 
 /// What a region in memory keeps for one opener: its places in the journal, the size of the data file for which it has
 /// room, and how often its calls failed, loaded, and found the lock taken.
@@ -27,6 +29,34 @@ impl Account {
             faults: 0,
             loads: 0,
             busy: 0,
+        }
+    }
+
+    /// What an event of its opener leaves of it.
+    pub fn after(self, what: &What) -> Self
+        requires some { 0 < self.kept }
+        requires few { self.kept + 1 < 2 ^ 32 }
+        ensures { result ≡ account_after what.now self }
+    {
+        match what {
+            What::Lock(_) => Account {
+                kept: self.kept + 1,
+                ..self
+            },
+            What::Unlock => Account {
+                kept: 1,
+                room: 0,
+                ..self
+            },
+            What::Died { torn: _ } => Account {
+                kept: 0,
+                room: 0,
+                ..self
+            },
+            _ => Account {
+                kept: self.kept - 1,
+                ..self
+            },
         }
     }
 }
