@@ -6,13 +6,17 @@ use Rattle.lock_rules.specs.Locks.{MayTake}
 use Rattle.lock_rules.specs.declared.table.LockKind.{LockKind}
 use Rattle.lock_rules.specs.declared.table.LockKind.TheVariants.{Shared, Exclusive}
 use Rattle.region_words.specs.Past.{region_after, locks_after, has_died, is_death}
-use Rattle.region_words.specs.Lawful.{Lawful}
+use Rattle.region_words.specs.Lawful.{Lawful, IsWordOf}
 use Rattle.region_words.specs.Outside.{one_more}
-use Rattle.region_words.specs.Share.{ShareState, IsSound, IsSameShare, Counts, most_events, After, Left, Goes, Fails, total, unlock_place, lock_of, places_for, places_kept, made_by, stored, locked, unlocked_by, died, failed, loaded, refused, reserving, unmoved}
-use Rattle.region_words.specs.Local.{Local, Seated, IsLocal, IsAccount, HasPlace, seat_state, account_of, account_after, kept_in, lock_after, reserved_in, with_event, event_of, with_account, called, after_load, after_refusal, after_fault, after_reserve}
+use Rattle.region_words.specs.Share.{ShareState, IsSound, IsSameShare, Counts, most_events, After, Left, Goes, Fails, total, unlock_place, lock_of, places_for, places_kept, made_by, stored, locked, unlocked_by, died, failed, loaded, refused, reserving, unmoved, MayTearAt, torn_word, IsNotDue, StopsReserving, StopsTrying}
+use Rattle.region_words.specs.Local.{Local, Seated, IsLocal, IsAccount, HasPlace, seat_state, account_of, account_after, kept_in, lock_after, reserved_in, with_event, event_of, with_account, called, after_load, after_refusal, after_fault, after_reserve, LacksPlaces, stop_of}
 use Rattle.region_words.specs.declared.account.Account.{Account}
 use Rattle.region_words.specs.declared.event.TornWord.{TornWord}
+use Rattle.region_words.specs.declared.stops.TornStore.{TornStore}
+use Rattle.region_words.specs.declared.places.AdmitStop.{AdmitStop}
+use Rattle.region_words.specs.declared.places.AdmitStop.TheVariants.{JournalFull, Memory}
 use Rattle.region_words.specs.declared.event.Side.{Side}
+use Rattle.region_words.specs.declared.event.Side.TheVariants.{Meta}
 use Rattle.region_words.specs.declared.event.Mark.{Mark}
 use Rattle.region_words.specs.declared.event.What.{What}
 use Rattle.region_words.specs.declared.event.What.TheVariants.{Store, Grow, Lock, Unlock, Died}
@@ -21,6 +25,7 @@ use Rattle.region_words.proofs.Totals.{total_same}
 use Rattle.region_words.proofs.LockOf.{exclusive_holds, lock_other, lock_without, lock_with}
 use Rattle.region_words.proofs.Accounts.{own_account, other_account, local_account, local_event, held_places, above_none, not_dead, now_dead, free_holds_none, counted, reserved_account}
 use Rattle.region_words.proofs.Permits.{may_die}
+use Rattle.region_words.proofs.Regions.{lawful_region}
 
 -- the places of an account are those for its opener
 places_are : (past : List Event) (who : ℕ) (a : Account) → IsAccount past who a →
@@ -227,7 +232,7 @@ module _ (who : ℕ) (l : Local) (is : IsLocal l) (maker : (1 ≤ who) × (who �
       held_two = subst (λ o. 1 + unlock_place o ≤ own.kept) (sym exclusive) (held_places l.past who own (is.each who) (exclusive_holds (locks_after l.past) who exclusive))
 
   -- an event of this opener, in a call that was counted
-  local_made : (fails : Bool) (what : What) → Lawful l.start (event_of who what ∷ l.past) → HasPlace l who what → IsLocal (with_event (called l fails) who what)
+  pub local_made : (fails : Bool) (what : What) → Lawful l.start (event_of who what ∷ l.past) → HasPlace l who what → IsLocal (with_event (called l fails) who what)
   local_made fails what lawful place =
       local_event (called l fails) (local_called l fails is) who what maker.0 maker.1 lawful (record { kept = place.kept; room = place.room })
 
@@ -398,3 +403,28 @@ module _ (who : ℕ) (l : Local) (is : IsLocal l) (maker : (1 ≤ who) × (who �
         calls = refl;
         past = refl;
       })
+
+  -- a death that was asked for is lawful
+  pub death_lawful : (torn : Option TornStore) → MayTearAt torn s → s.ended ≡ false → Lawful l.start (event_of who (Died (torn_word (region_after l.start l.past) torn)) ∷ l.past)
+  death_lawful None may e = may_die l.start l.past who is.lawful maker (living e).0
+  death_lawful (Some t) may e = may.1
+
+  -- why places weren't reserved, and why the lock wasn't tried
+  pub stops_reserving : (events : ℕ) (stop : AdmitStop) → LacksPlaces l events stop → IsNotDue s → StopsReserving events (stop_of stop) s (state_of (called l false))
+  stops_reserving events JournalFull lacks due = (record { after = after_nothing; not_due = due }, lacks)
+  stops_reserving events Memory lacks due = record { after = after_nothing; not_due = due }
+
+  pub stops_trying : (kind : LockKind) (stop : AdmitStop) → LacksPlaces l 2 stop → MayTake (locks_after l.past) who kind → IsNotDue s →
+      StopsTrying kind (stop_of stop) s (state_of (called l false))
+  stops_trying kind JournalFull lacks free due = (record { after = after_nothing; not_due = due }, lacks, free)
+  stops_trying kind Memory lacks free due = (record { after = after_nothing; not_due = due }, free)
+
+-- a list that has something isn't empty
+pub has_some : (xs : List ℕ) (x : ℕ) → Contains xs x → xs ≢ []
+has_some xs x (i, within, is) none = absurd (omega (arith, within, ap length none))
+
+-- the words of the meta file that are read lie in it
+pub meta_word : (l : Local) → IsLocal l → (w : ℕ) → w < 1024 → IsWordOf (region_after l.start l.past) Meta w
+meta_word l is w few =
+    let file = (lawful_region l.start l.past is.lawful is.region).meta_file in
+    omega (arith, few, file.pages, file.not_empty)

@@ -15,6 +15,9 @@ use Rattle.region_words.specs.Stores.{filled_up}
 use Rattle.region_words.specs.Share.{ShareState, most_events, total, unlock_place, lock_of}
 use Rattle.region_words.specs.declared.account.Account.{Account}
 use Rattle.region_words.specs.declared.places.AdmitStop.{AdmitStop}
+use Rattle.region_words.specs.declared.places.AdmitStop.TheVariants.{JournalFull, Memory}
+use Rattle.region_words.specs.declared.stops.ShareStop.{ShareStop}
+use Rattle.region_words.specs.declared.stops.ShareStop.TheVariants as share
 use Rattle.region_words.specs.Places.{LacksRoom}
 use Rattle.region_words.specs.declared.event.What.{What}
 use Rattle.region_words.specs.declared.event.What.TheVariants.{Store, Grow, Lock, Unlock, Died}
@@ -192,3 +195,29 @@ abbrev pub TriedIn : Local → Local → ℕ → LockKind → Tried → Type 0
 TriedIn old new who kind Taken =
     (new ≡ with_event old who (Lock kind)) × MayTake (locks_after old.past) who kind × (length old.past + kept_in old.accounts + 2 ≤ most_events)
 TriedIn old new who kind (Busy holder) = (new ≡ old) × IsLeastAgainst (locks_after old.past) who kind holder
+
+-- the region after one more fault of this opener
+abbrev pub with_fault : Local → ℕ → Local
+with_fault l who = with_account l who (after_fault (account_of l.accounts who))
+
+-- a seat after a call was counted, and after what the call then did
+abbrev pub seat_called : Seated → Seated
+seat_called s = record { who = s.who; region = called s.region false }
+
+abbrev pub seat_loaded : Seated → Seated
+seat_loaded s = record { who = s.who; region = with_account s.region s.who (after_load (account_of s.region.accounts s.who)) }
+
+abbrev pub seat_refused : Seated → Seated
+seat_refused s = record { who = s.who; region = with_account s.region s.who (after_refusal (account_of s.region.accounts s.who)) }
+
+abbrev pub seat_reserved : ℕ → ℕ → Seated → Seated
+seat_reserved events size s =
+    record { who = s.who; region = with_account s.region s.who (after_reserve events size (account_of s.region.accounts s.who)) }
+
+abbrev pub seat_made : What → Seated → Seated
+seat_made what s = record { who = s.who; region = with_event s.region s.who what }
+
+-- the stop of a share for want of places
+abbrev pub stop_of : AdmitStop → ShareStop
+stop_of JournalFull = share.JournalFull
+stop_of Memory = share.Memory

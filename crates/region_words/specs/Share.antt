@@ -283,6 +283,11 @@ abbrev pub torn_word : Region → Option TornStore → Option TornWord
 torn_word r None = None
 torn_word r (Some t) = Some (record { word = t.word; value = torn (word_at r.data_bytes t.word) t.new t.bits })
 
+-- the word that is torn lies in the file
+abbrev pub HasTornWord : Region → Option TornStore → Type 0
+HasTornWord r None = ⊤
+HasTornWord r (Some t) = IsWordOf r Data t.word
+
 -- a death may tear the word so
 abbrev pub MayTearAt : Option TornStore → ShareState → Type 0
 MayTearAt None s = ⊤

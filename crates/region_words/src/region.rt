@@ -1,22 +1,23 @@
 // A region in memory, with its journal.
-ghost use Rattle.std.specs.Prelude.{All, ◌≡◌, ◌≢◌, ℕ, ◌+◌, ◌<◌, ◌≤◌, ◌↔◌, ◌++◌, [], ◌∷◌, ◌-◌, false, true, None, Some, length, reverse, vec_capacity, vec_len, Contains, IsTrue, IfOk, IfErr, OnOk};
+ghost use Rattle.std.specs.Prelude.{All, ◌≡◌, ◌≢◌, ℕ, ◌+◌, ◌<◌, ◌≤◌, ◌↔◌, ◌++◌, [], ◌∷◌, ◌-◌, false, true, None, Some, length, reverse, vec_capacity, vec_len, Contains, IsTrue, IfOk, IfErr, OnOk, ◌==◌, if◌then◌else◌};
 ghost use Rattle.region_words.specs.Region.{file_size};
 ghost use Rattle.region_words.specs.Past.{region_after, changes_of, locks_after, has_died};
 ghost use Rattle.region_words.specs.Lawful.{Lawful, IsWordOf};
-ghost use Rattle.region_words.specs.Share.{word_in, most_events};
-ghost use Rattle.region_words.specs.Local.{Local, IsLocal, TakesPlace, HasRoomToGrow, LacksPlaces, TriedIn, opening, account_of, with_account, with_event, event_of, called, kept_in, lock_after, after_load, after_refusal, after_fault, after_reserve, after_admission};
+ghost use Rattle.region_words.specs.Share.{word_in, most_events, torn_word, HasTornWord};
+ghost use Rattle.region_words.specs.Local.{Local, IsLocal, TakesPlace, HasRoomToGrow, LacksPlaces, TriedIn, opening, account_of, with_account, with_event, event_of, called, kept_in, lock_after, after_load, after_refusal, after_fault, after_reserve, after_admission, with_fault};
 ghost use Rattle.region_words.specs.Stores.{filled_up};
 ghost use Rattle.region_words.specs.Opening.{Refuses, size_over, LiesIn, HasBytes, IsNoLock};
 ghost use Rattle.region_words.specs.Past.{region_step, locks_step, change_of};
 ghost use Rattle.lock_rules.specs.Locks.{MayTake};
-ghost use Rattle.meta_record.specs.Words.{grown_to};
+ghost use Rattle.meta_record.specs.Words.{grown_to, torn};
 
 use crate::account::Account;
-use crate::event::{Event, Mark, Side, What};
+use crate::event::{Event, Mark, Side, TornWord, What};
 use crate::failing::Failing;
 use crate::pages::fill_up;
 use crate::places::{AdmitStop, make_room};
 use crate::shelf::{LARGEST_DATA, LARGEST_META};
+use crate::stops::TornStore;
 use lock_rules::{LockKind, LockTable, Tried};
 use meta_record::{load_word, store_word};
 use std::alloc::Global;
@@ -146,6 +147,13 @@ impl LocalRegion {
         Ok(())
     }
 
+    // For proofs: what is true of every region in memory.
+    pub(crate) fn good(&self)
+        ensures { IsLocal self.now }
+    {
+        let _ = &self.kept;
+    }
+
     // The number of changes.
     pub(crate) fn count_of_changes(&self) -> u32
         ensures { result ≡ length (changes_of self.now.past) }
@@ -264,6 +272,35 @@ impl LocalRegion {
         self.accounts[who as usize].kept += 1;
         self.kept += 1;
         Ok(Tried::Taken)
+    }
+
+    // A failed call: the death of its opener, and one fault more.
+    pub(crate) fn fail(&mut self, who: u32)
+        requires least { 1 ≤ who }
+        requires most { who ≤ 64 }
+        requires lawful { Lawful self.old.start (event_of who (What.Died None) ∷ self.old.past) }
+        requires living { 0 < (account_of self.old.accounts who).kept }
+        ensures { self.new ≡ with_fault (with_event self.old who (What.Died None)) who }
+    {
+        self.note(who, What::Died { torn: None });
+        self.count_fault(who);
+    }
+
+    // The word that a death leaves where it tears this store.
+    pub(crate) fn torn_word(&self, torn: Option<TornStore>) -> Option<TornWord>
+        requires { HasTornWord (region_after self.now.start self.now.past) torn }
+        ensures { result ≡ torn_word (region_after self.now.start self.now.past) torn }
+    {
+        match torn {
+            None => None,
+            Some(store) => {
+                let old = load_word(&self.data, store.word as usize);
+                Some(TornWord {
+                    word: store.word,
+                    value: torn_value(old, store.new, store.bits),
+                })
+            }
+        }
     }
 
     // One event that takes a place that is kept.
@@ -394,4 +431,25 @@ fn grow_to(body: &mut Vec<u8>, size: usize)
     ensures capacity { vec_capacity body.old ≤ vec_capacity body.new }
 {
     let _ = body.resize(size, 0);
+}
+
+// What a death leaves of a store: the bytes on which the old and the new word agree, and else those of the bits.
+fn torn_value(old: u32, new: u32, bits: u32) -> u32
+    ensures { result ≡ torn old new bits }
+{
+    let old = old.to_le_bytes();
+    let new = new.to_le_bytes();
+    let bits = bits.to_le_bytes();
+    u32::from_le_bytes([
+        torn_byte(old[0], new[0], bits[0]),
+        torn_byte(old[1], new[1], bits[1]),
+        torn_byte(old[2], new[2], bits[2]),
+        torn_byte(old[3], new[3], bits[3]),
+    ])
+}
+
+fn torn_byte(old: u8, new: u8, bits: u8) -> u8
+    ensures { result ≡ (if old == new then old else bits) }
+{
+    if old == new { old } else { bits }
 }

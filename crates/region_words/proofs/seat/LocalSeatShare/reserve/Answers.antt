@@ -1,0 +1,46 @@
+use Rattle.std.proofs.Common.{◌≡◌, ◌≢◌, ℕ, ◌+◌, ◌≤◌, ◌<◌, true, false, List, [], ◌∷◌, length, refl, sym, subst, ap, ◌∙◌, arith}
+use Rattle.std.specs.Prelude.{Some, None, Contains}
+use Rattle.lock_rules.specs.Locks.{MayTake}
+use Rattle.lock_rules.specs.declared.table.LockKind.TheVariants.{Exclusive}
+use Rattle.region_words.specs.Past.{region_after, locks_after, has_died}
+use Rattle.region_words.specs.Lawful.{Lawful, IsWordOf}
+use Rattle.region_words.specs.Share.{Goes, Fails, IsNotDue, IsSound, Dies, Tries, StopsReserving, StopsTrying, HasRoom, most_events, loaded, refused, stored, locked, unlocked_by, died, reserving, unmoved, torn_word, MayTearAt}
+use Rattle.region_words.specs.Local.{Local, Seated, IsLocal, HasPlace, seat_state, seat_called, seat_loaded, seat_refused, seat_reserved, seat_made, account_of, lock_after, reserved_in, kept_in, LacksPlaces, stop_of, event_of, called, with_event, with_fault, after_reserve}
+use Rattle.region_words.specs.declared.event.Side.TheVariants.{Meta}
+use Rattle.region_words.specs.declared.event.What.{What}
+use Rattle.region_words.specs.declared.event.What.TheVariants.{Store, Grow, Lock, Unlock, Died}
+use Rattle.region_words.proofs.Permits.{may_die, may_lock}
+use Rattle.region_words.proofs.Regions.{lawful_region}
+use Rattle.region_words.proofs.SeatCalls.{seat_sound, living, death_lawful, has_some, meta_word, after_nothing, local_reserving, stops_reserving, after_loading, after_refusing, after_reserving, after_store, after_grow, after_lock, after_unlock, after_death, after_failure}
+use Rattle.region_words.proofs.seat.LocalSeatShare.reserve.Goals as goal
+
+pub returns-clause-ok : goal.returns-clause-ok
+returns-clause-ok c =
+    let s = c.args.self.now in
+    let e = c.self.view_is ∙ c.in_ok-begin.ensures.ok in
+    let is = c.in_ok-begin.ensures.good in
+    let maker = c.in_ok-begin.ensures.maker in
+    let few = subst (λ (t : Seated). length t.region.past + kept_in t.region.accounts + c.args.events ≤ most_events) e c.in_default.ensures.room in
+    rw c.in_default.ensures.ok
+    (subst (λ (t : Seated). Goes (reserving c.args.events c.args.size (seat_state s)) (seat_state s) (seat_state (seat_reserved c.args.events c.args.size t))) (sym e)
+    (record { after = after_reserving s.who s.region is maker c.args.events c.args.size c.requires.held few; not_due = c.in_ok-begin.ensures.due }))
+
+pub returns-clause-room : goal.returns-clause-room
+returns-clause-room c =
+    let s = c.args.self.now in
+    let e = c.self.view_is ∙ c.in_ok-begin.ensures.ok in
+    let is = c.in_ok-begin.ensures.good in
+    let maker = c.in_ok-begin.ensures.maker in
+    let few = subst (λ (t : Seated). length t.region.past + kept_in t.region.accounts + c.args.events ≤ most_events) e c.in_default.ensures.room in
+    rw c.in_default.ensures.ok
+    (subst (λ (t : Seated). HasRoom (seat_state (seat_reserved c.args.events c.args.size t))) (sym e) (local_reserving s.who s.region is maker c.args.events c.args.size c.requires.held few).few)
+
+pub returns-in-Err-clause-err : goal.returns-in-Err-clause-err
+returns-in-Err-clause-err c =
+    let s = c.args.self.now in
+    let e = c.self.view_is ∙ c.in_ok-begin.ensures.ok in
+    let is = c.in_ok-begin.ensures.good in
+    let maker = c.in_ok-begin.ensures.maker in
+    let lacks = subst (λ (t : Seated). LacksPlaces t.region c.args.events c.in-Err.stop) e c.in-Err.ensures.err in
+    rw (c.stop_of.ensures, c.in-Err.ensures.same)
+    (subst (λ (t : Seated). StopsReserving c.args.events (stop_of c.in-Err.stop) (seat_state s) (seat_state t)) (sym e) (stops_reserving s.who s.region is maker c.args.events c.in-Err.stop lacks c.in_ok-begin.ensures.due))
