@@ -1,6 +1,6 @@
-use Rattle.std.specs.Prelude.{ℕ, ◌+◌, Bool, true, false, List, Option, Some, None, fold, ◌==◌, if◌then◌else◌}
+use Rattle.std.specs.Prelude.{ℕ, ◌+◌, ◌^◌, ◌<◌, ◌≢◌, Bool, true, false, List, [], Option, Some, None, fold, All, ⊤, ◌==◌, if◌then◌else◌}
 use Rattle.std.specs.FinMap as fin
-use Rattle.expiring_map.specs.Map.{Map, value_until, map_of_pairs}
+use Rattle.expiring_map.specs.Map.{Map, HasContent, value_until, map_of_pairs}
 use Rattle.expiring_map.specs.Live.{live_part, with_expiry}
 use Rattle.change_log.specs.declared.change.Act.{Act}
 use Rattle.change_log.specs.declared.change.Act.TheVariants as act
@@ -51,3 +51,14 @@ abbrev pub is_append : Act → Bool
 is_append (act.Put key value expiry) = true
 is_append (act.Remove key) = true
 is_append _ = false
+
+-- the change writes no empty key and no empty value, and no second past 32 bits
+abbrev pub IsSound : Act → Type 0
+IsSound (act.Put key value expiry) = (key ≢ []) × (value ≢ [])
+IsSound (act.Enable now seconds) = now + seconds < 2 ^ 32
+IsSound (act.Restored pairs) = All HasContent pairs
+IsSound (act.Recovered pairs) = All HasContent pairs
+IsSound _ = ⊤
+
+abbrev pub AreSound : List Change → Type 0
+AreSound changes = All (λ c. IsSound c.act) changes

@@ -11,8 +11,8 @@ use Rattle.change_log.specs.declared.call.Call.TheVariants as call
 use Rattle.change_log.specs.declared.call.Reply.{Reply}
 use Rattle.change_log.specs.declared.call.Reply.TheVariants as reply
 use Rattle.change_log.specs.declared.call.Answer.{Answer}
-use Rattle.change_log.specs.declared.weave.Entry.{Entry}
-use Rattle.change_log.specs.declared.weave.Entry.TheVariants as entry
+use Rattle.change_log.specs.declared.woven.Entry.{Entry}
+use Rattle.change_log.specs.declared.woven.Entry.TheVariants as entry
 
 -- what a call is answered that finds this map at a moment
 abbrev pub reply_in : Map → ℕ → Call → Reply
@@ -54,6 +54,12 @@ IsLeftOpen answers maker i = All (λ a. a.who ≡ maker → a.ended ≤ i) answe
 abbrev pub IsOwned : List Change → List Answer → ℕ → Change → Type 0
 IsOwned changes answers i c = IsTrue (is_of_call c.act) →
     IsAnswered changes answers i ⊎ (MakesNone is_of_call changes c.maker (i + 1) × IsLeftOpen answers c.maker i)
+
+-- the change at i is this opener's, and either the answered put or remove of this moment, or the last that it makes
+abbrev pub IsNext : List Change → List Answer → ℕ → ℕ → ℕ → Type 0
+IsNext changes answers i maker t =
+    (next : Change) × (slice_get changes i ≡ Some next) × (next.maker ≡ maker)
+    × ((IsTrue (is_append next.act) × Any (λ a. IsTrue (makes_change changes a) × (a.place ≡ i) × (a.now ≡ t)) answers) ⊎ MakesNone (λ _. true) changes maker (i + 1))
 
 -- a write-back is made for the put or remove that directly follows, or it is the last that its opener does
 abbrev pub IsFollowed : List Change → List Answer → ℕ → Change → Type 0

@@ -1,4 +1,6 @@
-// What changes do to a map.
+// Changes of a map.
+ghost use Rattle.std.specs.Prelude.{◌≡◌};
+
 use expiring_map::{Bytes, Pairs};
 use std::marker::Model;
 
@@ -53,4 +55,26 @@ impl Model for Changes {
     ghost Value = { List Change };
 
     ghost view = { λ a. a.items.items };
+}
+
+impl Changes {
+    pub fn as_slice(&self) -> &[Change]
+        ensures { result.now ≡ self.now }
+    {
+        &self.items
+    }
+
+    /// The same changes; their memory is handed over.
+    pub fn of_vec(from: Vec<Change>) -> Changes
+        ensures { result ≡ from.items }
+    {
+        Changes { items: from }
+    }
+
+    /// The same changes; their memory is handed over.
+    pub fn into_vec(self) -> Vec<Change>
+        ensures { result.items ≡ self }
+    {
+        self.items
+    }
 }

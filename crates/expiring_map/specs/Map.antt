@@ -1,4 +1,4 @@
-use Rattle.std.specs.Prelude.{ℕ, List, map, fold}
+use Rattle.std.specs.Prelude.{ℕ, List, [], map, fold, All, ◌≢◌}
 use Rattle.std.specs.Ordering.{nat_cmp}
 use Rattle.std.specs.Cmp.Lexicographic.{slice_cmp}
 use Rattle.std.specs.FinMap as fin
@@ -22,3 +22,11 @@ map_of_pairs pairs = fold with_pair fin.empty pairs
 -- the map's pairs, in byte order of keys
 abbrev pub pairs_of : Map → List Pair
 pairs_of m = map (λ e. record { key = e.0; value = e.1.value; expiry = e.1.expiry }) (fin.entries m)
+
+-- neither the key nor the value of the pair is empty
+abbrev pub HasContent : Pair → Type 0
+HasContent p = (p.key ≢ []) × (p.value ≢ [])
+
+-- no key and no value of the map is empty
+abbrev pub IsFilled : Map → Type 0
+IsFilled m = All HasContent (pairs_of m)

@@ -2,9 +2,12 @@
 #![tactic(auto)]
 
 mod bytes;
+mod iter;
+mod kept;
 mod map;
 mod pair;
 
 pub use bytes::{Bytes, Memory};
+pub use iter::{Iter, PairRef};
 pub use map::ExpiringMap;
 pub use pair::{Keys, Pair, Pairs};

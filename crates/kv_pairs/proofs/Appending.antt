@@ -3,19 +3,12 @@ use Rattle.std.proofs.Common.{◌≡◌, ℕ, zero, suc, ◌+◌, ◌*◌, ◌/�
 use Rattle.std.specs.Prelude.{Some, nat_lt}
 use Rattle.std.proofs.lemmas.Bool.Decides.{nat_tests}
 use Rattle.kv_pairs.specs.Lengths.{IsVarint, varint_value, Spells, shortest, shortest_in}
-use Rattle.kv_pairs.specs.Grammar.{Units, none, gap, one, IsPayloadOf, empty, begun}
+use Rattle.kv_pairs.specs.Grammar.{Units, none, one, IsPayloadOf, empty, begun}
 use Rattle.kv_pairs.specs.Reading.{items_of}
 use Rattle.kv_pairs.specs.Mapped.{length_prefixed}
 use Rattle.kv_pairs.specs.declared.item.Item.{Item}
 use Rattle.kv_pairs.proofs.ReadsGrammar.{payload_read}
-use Rattle.kv_pairs.proofs.GrammarRead.{Small, items_of_ok}
-
-Units-append : {xs ys : List ℕ} {is js : List Item} → Units xs is → Units ys js → Units (xs ++ ys) (is ++ js)
-Units-append none v = v
-Units-append {ys = ys} (gap {bytes} {zero_text} {rest} e s u) v =
-    gap (ap (λ z. z ++ ys) e ∙ append_assoc zero_text rest ys) s (Units-append u v)
-Units-append {ys = ys} (one {bytes} {key_text} {key} {value_text} {value} {rest} e s p t u) v =
-    one (ap (λ z. z ++ ys) e ∙ append_assoc (key_text ++ key ++ value_text ++ value) rest ys) s p t (Units-append u v)
+use Rattle.kv_pairs.proofs.GrammarRead.{Small, Units-append, items_of_ok}
 
 payload_more : {p ys : List ℕ} {is js : List Item} → 0 < length p → IsPayloadOf p is → Units ys js → IsPayloadOf (p ++ ys) (is ++ js)
 payload_more some empty v = absurd (omega (arith, some))

@@ -14,7 +14,7 @@ use Rattle.kv_pairs.proofs.GrammarRead.{Small, items_of_ok, units_ok, pair_of}
 use Rattle.kv_pairs.proofs.Mapping.{some_when, with_items-append}
 
 -- the units of the front are read, and then what stands behind them
-abbrev Goes : ℕ → List ℕ → List Item → List ℕ → Type 0
+abbrev pub Goes : ℕ → List ℕ → List Item → List ℕ → Type 0
 Goes k bytes items ys = (j : ℕ) × (length ys ≤ j) × (units_in k (bytes ++ ys) ≡ pair_of (items ++ (units_in j ys).0) (units_in j ys).1)
 
 one_on : (k : ℕ) (bytes ys rest : List ℕ) (its items : List Item) → length rest < length bytes → unit_at (bytes ++ ys) ≡ Some (its, rest ++ ys) →
@@ -27,7 +27,7 @@ one_on (suc k) bytes ys rest its items less e h go =
       rw e ((λ i. pair_of (its ++ (more.2 i).0) (more.2 i).1) ∙ ap (λ z. pair_of z (units_in more.0 ys).1) (sym (append_assoc its items (units_in more.0 ys).0))),
     )
 
-units_front : {bytes : List ℕ} {items : List Item} → Units bytes items → (ys : List ℕ) (k : ℕ) → length (bytes ++ ys) ≤ k → Goes k bytes items ys
+pub units_front : {bytes : List ℕ} {items : List Item} → Units bytes items → (ys : List ℕ) (k : ℕ) → length (bytes ++ ys) ≤ k → Goes k bytes items ys
 units_front none ys k h = (k, h, refl)
 units_front (gap {bytes} {zero_text} {rest} {items} e s u) ys k h =
     one_on k bytes ys rest [] items (omega (arith, ap length e, length-append zero_text rest, some_byte zero_text s.chain))

@@ -1,10 +1,11 @@
 -- What is read from bytes is made of bytes, is no longer than they are, and has no empty key.
-use Rattle.std.proofs.Common.{◌≡◌, ℕ, zero, suc, ◌+◌, ◌*◌, ◌%◌, ◌<◌, ◌≤◌, Bool, true, false, cond, List, [], ◌∷◌, ◌++◌, length, get_or, take, drop, refl, arith, length-take, length-drop}
+use Rattle.std.proofs.Common.{◌≡◌, ℕ, zero, suc, ◌+◌, ◌*◌, ◌%◌, ◌<◌, ◌≤◌, Bool, true, false, cond, List, [], ◌∷◌, ◌++◌, length, get_or, take, drop, refl, ap, arith, length-take, length-drop}
 use Rattle.std.specs.Prelude.{Option, Some, None, option_and_then, option_map, nat_lt, nat_le, filter, ◌==◌, ◌&&◌, All}
 use Rattle.std.specs.Option.{option_map_or}
 use Rattle.std.specs.List.{list_all}
 use Rattle.std.proofs.lemmas.Bool.Decides.{nat_tests}
 use Rattle.kv_pairs.specs.Reading.{number_in, length_at, bytes_at, text_at, unit_at, units_in, units_at, read_payload}
+use Rattle.kv_pairs.specs.Found.{HaveKeys}
 use Rattle.kv_pairs.specs.Mapped.{has_room_for_expiry}
 use Rattle.kv_pairs.specs.declared.item.Item.{Item}
 use Rattle.kv_pairs.proofs.GrammarRead.{Small}
@@ -32,6 +33,11 @@ pub Small-from : (bs : List ℕ) → All (λ b. b < 256) bs → Small bs
 Small-from [] h = tt
 Small-from (b ∷ bs) h = (h 0 0 (omega arith), Small-from bs (λ k d lt. h (suc k) d (omega (arith, lt))))
 
+-- what each place of a slice of bytes is known to be
+pub Small-of : (bs : List ℕ) → ((i : ℕ) → get_or bs i 0 < 256) → Small bs
+Small-of [] h = tt
+Small-of (b ∷ bs) h = (h 0, Small-of bs (λ i. h (suc i)))
+
 Small-within : (bs : List ℕ) (k d : ℕ) → Small bs → k < length bs → get_or bs k d < 256
 Small-within [] k d s lt = absurd (omega (arith, lt))
 Small-within (b ∷ bs) zero d s lt = s.0
@@ -56,8 +62,13 @@ AllGood-append : (n : ℕ) (xs ys : List Item) → AllGood n xs → AllGood n ys
 AllGood-append n [] ys g h = h
 AllGood-append n (x ∷ xs) ys g h = (g.0, AllGood-append n xs ys g.1 h)
 
+-- so none of them has an empty key
+pub have_keys : (n : ℕ) (items : List Item) → AllGood n items → HaveKeys items
+have_keys n [] g = tt
+have_keys n (i ∷ items) g = (λ e. absurd (omega (arith, g.0.key_some, ap length e)), have_keys n items g.1)
+
 -- what is left is bytes, and no longer
-abbrev Rest : ℕ → List ℕ → Type 0
+abbrev pub Rest : ℕ → List ℕ → Type 0
 Rest n rest = Small rest × (length rest ≤ n)
 
 abbrev Leaves : ℕ → Option (ℕ × List ℕ) → Type 0
@@ -125,7 +136,7 @@ unit_fine n bytes s = go (text_at bytes) (text_fine n bytes s)
     go None t = tt
     go (Some key) t = by_test (length key.0 == 0) key.0 key.1 refl t.0 t.1
 
-units_fine : (k n : ℕ) (bytes : List ℕ) → Rest n bytes → AllGood n (units_in k bytes).0
+pub units_fine : (k n : ℕ) (bytes : List ℕ) → Rest n bytes → AllGood n (units_in k bytes).0
 units_fine zero n bytes s = tt
 units_fine (suc k) n bytes s = go (unit_at bytes) (unit_fine n bytes s) (λ rest r. units_fine k n rest r)
   where
@@ -133,6 +144,9 @@ units_fine (suc k) n bytes s = go (unit_at bytes) (unit_fine n bytes s) (λ rest
         AllGood n (option_map_or {U = List Item × List ℕ} (λ u. let more = units_in k u.1 in (u.0 ++ more.0, more.1)) o ([], bytes)).0
     go None f more = tt
     go (Some u) f more = AllGood-append n u.0 (units_in k u.1).0 f.0 (more u.1 f.1)
+
+pub units_have_keys : (bytes : List ℕ) → Small bytes → HaveKeys (units_at bytes).0
+units_have_keys bytes s = have_keys (length bytes) (units_at bytes).0 (units_fine (length bytes) (length bytes) bytes (s, omega arith))
 
 -- the items that a payload begins with are good
 pub read_good : (bytes : List ℕ) → Small bytes → AllGood (length bytes) (read_payload bytes).0

@@ -75,7 +75,7 @@ number_ok (suc k) (b ∷ bs) n rest s e = by_test (nat_lt b 128) (number_in k bs
     by_test true o t e go = last_byte k b bs n rest (grind (arith, nat_tests)) e
     by_test false o t e go = by_more o (grind (arith, nat_tests)) e go
 
-length_ok : (bytes : List ℕ) (n : ℕ) (rest : List ℕ) → Small bytes → length_at bytes ≡ found n rest →
+pub length_ok : (bytes : List ℕ) (n : ℕ) (rest : List ℕ) → Small bytes → length_at bytes ≡ found n rest →
     (text : List ℕ) × Spells text n × (bytes ≡ text ++ rest)
 unfolding length_at
 length_ok bytes n rest s e = by_number (number_in 5 bytes) e (λ m tail q. number_ok 5 bytes m tail s q)
@@ -135,9 +135,9 @@ items_same xs ys us vs e = ap (λ o. option_map_or (λ x. x.0) o xs) e
 left_same : (xs ys : List Item) (us vs : List ℕ) → gave xs us ≡ gave ys vs → us ≡ vs
 left_same xs ys us vs e = ap (λ o. option_map_or (λ x. x.1) o us) e
 
--- a unit before units
+-- a unit with these items, and what stands behind it
 abbrev Begins : List ℕ → List Item → List ℕ → Type 0
-Begins bytes items rest = ((more : List Item) → Units rest more → Units bytes (items ++ more)) × Small rest
+Begins bytes items rest = (text : List ℕ) × (bytes ≡ text ++ rest) × Units text items × Small rest
 
 small_rest : (bytes xs rest : List ℕ) → Small bytes → IsTextAt bytes xs rest → Small rest
 small_rest bytes xs rest s t = Small-right (t.0 ++ xs) rest (subst Small t.2 s)
@@ -158,7 +158,9 @@ unit_ok bytes items rest s e = by_key (text_at bytes) e (λ key tail q. text_ok 
         let more = left_same (item_with key v.0 ∷ []) items v.1 rest e in
         let parts : bytes ≡ k.0 ++ key ++ t.0 ++ v.0 ++ v.1 =
         k.2 ∙ ap (λ z. k.0 ++ key ++ z) t.2 ∙ sym (append_assoc (k.0 ++ key) (t.0 ++ v.0) v.1) ∙ ap (λ z. z ++ v.1) (sym (append_assoc (k.0 ++ key) t.0 v.0)) in (
-          λ others u. subst (λ z. Units bytes (z ++ others)) same (one parts k.1 p t.1 (subst (λ z. Units z others) (sym more) u)),
+          k.0 ++ key ++ t.0 ++ v.0,
+          parts ∙ ap (λ z. k.0 ++ key ++ t.0 ++ v.0 ++ z) more,
+          subst (Units (k.0 ++ key ++ t.0 ++ v.0)) same (one (sym (append-nil (k.0 ++ key ++ t.0 ++ v.0))) k.1 p t.1 none),
           subst Small more (small_rest tail v.0 v.1 (small_rest bytes key tail s k) t),
         )
 
@@ -171,7 +173,9 @@ unit_ok bytes items rest s e = by_key (text_at bytes) e (λ key tail q. text_ok 
         let same = items_same [] items tail rest e in
         let more = left_same [] items tail rest e in
         let parts : bytes ≡ k.0 ++ tail = k.2 ∙ ap (λ z. k.0 ++ z ++ tail) (no_bytes key zero_size) ∙ ap (λ z. z ++ tail) (append-nil k.0) in (
-          λ others u. subst (λ z. Units bytes (z ++ others)) same (gap parts (subst (Spells k.0) zero_size k.1) (subst (λ z. Units z others) (sym more) u)),
+          k.0,
+          parts ∙ ap (λ z. k.0 ++ z) more,
+          subst (Units k.0) same (gap (sym (append-nil k.0)) (subst (Spells k.0) zero_size k.1) none),
           subst Small more (small_rest bytes key tail s k),
         )
       where
@@ -188,28 +192,40 @@ unit_ok bytes items rest s e = by_key (text_at bytes) e (λ key tail q. text_ok 
 abbrev pub pair_of : List Item → List ℕ → List Item × List ℕ
 pair_of items rest = (items, rest)
 
-pub units_ok : (k : ℕ) (bytes : List ℕ) (items : List Item) → Small bytes → units_in k bytes ≡ pair_of items [] → Units bytes items
-units_ok zero bytes items s e =
-    let same : [] ≡ items = ap (λ p. p.0) e in
-    let more : bytes ≡ [] = ap (λ p. p.1) e in
-    subst (Units bytes) same (subst (λ z. Units z []) (sym more) none)
-units_ok (suc k) bytes items s e =
-    by_unit (unit_at bytes) e (λ its rest q. unit_ok bytes its rest s q) (λ rest its t q. units_ok k rest its t q)
+pub Units-append : {xs ys : List ℕ} {is js : List Item} → Units xs is → Units ys js → Units (xs ++ ys) (is ++ js)
+Units-append none v = v
+Units-append {ys = ys} (gap {bytes} {zero_text} {rest} e s u) v =
+    gap (ap (λ z. z ++ ys) e ∙ append_assoc zero_text rest ys) s (Units-append u v)
+Units-append {ys = ys} (one {bytes} {key_text} {key} {value_text} {value} {rest} e s p t u) v =
+    one (ap (λ z. z ++ ys) e ∙ append_assoc (key_text ++ key ++ value_text ++ value) rest ys) s p t (Units-append u v)
+
+-- the units that were read, and what is left
+abbrev pub AreUnits : List ℕ → List Item → List ℕ → Type 0
+AreUnits bytes items rest = (text : List ℕ) × (bytes ≡ text ++ rest) × Units text items
+
+pub units_are : (k : ℕ) (bytes : List ℕ) → Small bytes → AreUnits bytes (units_in k bytes).0 (units_in k bytes).1
+units_are zero bytes s = ([], refl, none)
+units_are (suc k) bytes s = by_unit (unit_at bytes) (λ its rest q. unit_ok bytes its rest s q) (λ rest t. units_are k rest t)
   where
-    by_unit : (o : Option (List Item × List ℕ)) →
-        option_map_or (λ u. pair_of (u.0 ++ (units_in k u.1).0) (units_in k u.1).1) o (pair_of [] bytes) ≡ pair_of items [] →
-        ((its : List Item) (rest : List ℕ) → o ≡ gave its rest → Begins bytes its rest) →
-        ((rest : List ℕ) (its : List Item) → Small rest → units_in k rest ≡ pair_of its [] → Units rest its) → Units bytes items
-    by_unit None e go next =
-        let same : [] ≡ items = ap (λ p. p.0) e in
-        let more : bytes ≡ [] = ap (λ p. p.1) e in
-        subst (Units bytes) same (subst (λ z. Units z []) (sym more) none)
-    by_unit (Some u) e go next =
-        let same : u.0 ++ (units_in k u.1).0 ≡ items = ap (λ p. p.0) e in
-        let more : (units_in k u.1).1 ≡ [] = ap (λ p. p.1) e in
+    after : Option (List Item × List ℕ) → List Item × List ℕ
+    after o = option_map_or (λ u. pair_of (u.0 ++ (units_in k u.1).0) (units_in k u.1).1) o (pair_of [] bytes)
+
+    by_unit : (o : Option (List Item × List ℕ)) → ((its : List Item) (rest : List ℕ) → o ≡ gave its rest → Begins bytes its rest) →
+        ((rest : List ℕ) → Small rest → AreUnits rest (units_in k rest).0 (units_in k rest).1) → AreUnits bytes (after o).0 (after o).1
+    by_unit None go next = ([], refl, none)
+    by_unit (Some u) go next =
         let first = go u.0 u.1 refl in
-        let rest = next u.1 (units_in k u.1).0 first.1 (λ i. ((units_in k u.1).0, more i)) in
-        subst (Units bytes) same (first.0 (units_in k u.1).0 rest)
+        let more = next u.1 first.3 in (
+          first.0 ++ more.0,
+          first.1 ∙ ap (λ z. first.0 ++ z) more.1 ∙ sym (append_assoc first.0 more.0 (units_in k u.1).1),
+          Units-append first.2 more.2,
+        )
+
+pub units_ok : (k : ℕ) (bytes : List ℕ) (items : List Item) → Small bytes → units_in k bytes ≡ pair_of items [] → Units bytes items
+units_ok k bytes items s e =
+    let are = units_are k bytes s in
+    let whole : bytes ≡ are.0 = are.1 ∙ ap (λ p. are.0 ++ p.1) e ∙ append-nil are.0 in
+    subst (Units bytes) (ap (λ p. p.0) e) (subst (λ z. Units z (units_in k bytes).0) (sym whole) are.2)
 
 -- what is read is a payload of the grammar, of these items
 pub read_payload_ok : (bytes : List ℕ) (items : List Item) → Small bytes → read_payload bytes ≡ pair_of items [] → IsPayloadOf bytes items

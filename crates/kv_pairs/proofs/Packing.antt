@@ -17,14 +17,14 @@ use Rattle.expiring_map.proofs.Refold.{order, Entry, with_entry, same_keys, not_
 use Rattle.kv_pairs.specs.Lengths.{Spells, shortest, shortest_in}
 use Rattle.kv_pairs.specs.Grammar.{Units, none, one, begun}
 use Rattle.kv_pairs.specs.Reading.{items_of, read_payload, greedy_items}
-use Rattle.kv_pairs.specs.Mapped.{stored, unstored, with_item, with_items, has_room_for_expiry, map_of, greedy_map, length_prefixed, put_item, heading, packed}
+use Rattle.kv_pairs.specs.Mapped.{stored, unstored, with_item, with_items, has_room_for_expiry, map_of, greedy_map, length_prefixed, put_item, heading, packed, map_in, IsShort, IsSmall, IsPackablePair, IsPackable}
 use Rattle.kv_pairs.specs.Growth.{largest}
 use Rattle.kv_pairs.specs.declared.item.Item.{Item}
 use Rattle.kv_pairs.proofs.ReadsGrammar.{payload_read}
 use Rattle.kv_pairs.proofs.GrammarRead.{Small}
 use Rattle.kv_pairs.proofs.Appending.{shortest_spells}
 use Rattle.kv_pairs.proofs.Mapping.{unstored-stored}
-use Rattle.kv_pairs.proofs.GoodItems.{Small-take, Small-drop, Small-append, Small-at, GoodItem, AllFit, read_good, fit_filtered, fit_all}
+use Rattle.kv_pairs.proofs.GoodItems.{Small-take, Small-drop, Small-append, Small-at, Small-from, GoodItem, AllFit, read_good, fit_filtered, fit_all}
 
 -- a pair that an item can hold
 pub record Packs (flag : Bool) (key : List ℕ) (d : ValueUntil) : Type 0 where
@@ -40,9 +40,13 @@ pub record Packs (flag : Bool) (key : List ℕ) (d : ValueUntil) : Type 0 where
 abbrev pub Packable : Bool → Map → Type 0
 Packable flag m = (q : List ℕ) (d : ValueUntil) → fin.get m q ≡ Some d → Packs flag q d
 
+-- it holds of each entry
+abbrev pub Each : (List ℕ → ValueUntil → Type 0) → List Entry → Type 0
+Each P [] = Unit {0}
+Each P (e ∷ es) = P e.0 e.1 × Each P es
+
 abbrev pub AllPack : Bool → List Entry → Type 0
-AllPack flag [] = Unit {0}
-AllPack flag (e ∷ es) = Packs flag e.0 e.1 × AllPack flag es
+AllPack flag es = Each (Packs flag) es
 
 first : (a b : Bool) → T (a && b) → T a
 first true b p = tt
@@ -58,16 +62,20 @@ is_equal Equal p = refl
 is_equal Greater p = absurd cc
 
 -- from what a look-up finds to the entries, and back
-entries_pack : (flag : Bool) (es : List Entry) → T (fin.is_sorted order es) → ((q : List ℕ) (d : ValueUntil) → fin.find order q es ≡ Some d → Packs flag q d) → AllPack flag es
-entries_pack flag [] h f = tt
-entries_pack flag (e ∷ es) h f = (
+each_entry : (P : List ℕ → ValueUntil → Type 0) (es : List Entry) → T (fin.is_sorted order es) → ((q : List ℕ) (d : ValueUntil) → fin.find order q es ≡ Some d → P q d) → Each P es
+each_entry P [] h f = tt
+each_entry P (e ∷ es) h f = (
   f e.0 e.1 (rw (ap is_eq (tied_itself nat_list_cmp_total e.0)) refl),
-  entries_pack flag es (second _ _ h) (λ q d found. f q d (go q d found (eq_by_cmp order q e.0) refl)),
+  each_entry P es (second _ _ h) (λ q d found. f q d (go q d found (eq_by_cmp order q e.0) refl)),
 )
   where
     go : (q : List ℕ) (d : ValueUntil) → fin.find order q es ≡ Some d → (b : Bool) → eq_by_cmp order q e.0 ≡ b → cond (eq_by_cmp order q e.0) (Some e.1) (fin.find order q es) ≡ Some d
     go q d found true t = absurd (let n = not_below e.0 q es (first _ _ h) (is_equal _ t) in cc)
     go q d found false t = rw t found
+
+-- what holds of each pair that a look-up finds holds of each entry
+pub each_of : (P : List ℕ → ValueUntil → Type 0) (m : Map) → ((q : List ℕ) (d : ValueUntil) → fin.get m q ≡ Some d → P q d) → Each P (fin.entries m)
+each_of P m p = each_entry P (fin.entries m) (fin.entries_sorted m) (λ q d e. p q d (fin.get-entries m q ∙ e))
 
 found_pack : (flag : Bool) (es : List Entry) → AllPack flag es → (q : List ℕ) (d : ValueUntil) → fin.find order q es ≡ Some d → Packs flag q d
 found_pack flag [] p q d e = absurd cc
@@ -81,7 +89,33 @@ found_pack flag (x ∷ es) p q d e = go (eq_by_cmp order q x.0) refl e (λ f. fo
     go false t f more = more f
 
 pub all_pack : (flag : Bool) (m : Map) → Packable flag m → AllPack flag (fin.entries m)
-all_pack flag m p = entries_pack flag (fin.entries m) (fin.entries_sorted m) (λ q d e. p q d (fin.get-entries m q ∙ e))
+all_pack flag m p = each_of (Packs flag) m p
+
+pub one_more : (m : Map) (key : List ℕ) (d : ValueUntil) → fin.len (fin.insert m key d) ≤ fin.len m + 1
+one_more m key d = go (fin.contains_key m key) (fin.len-insert nat_list_cmp_total m key d)
+  where
+    go : (b : Bool) → fin.len (fin.insert m key d) ≡ cond b (fin.len m) (fin.len m + 1) → fin.len (fin.insert m key d) ≤ fin.len m + 1
+    go true e = omega (arith, e)
+    go false e = omega (arith, e)
+
+-- a map that is small stays so with one more short pair
+pub small_with : (m : Map) (key : List ℕ) (d : ValueUntil) → IsSmall m → IsShort key d → fin.len m + 1 < 2 ^ 32 → IsSmall (fin.insert m key d)
+small_with m key d s short few = record { short = λ q e found. go q e (eq_by_cmp order q key) refl (sym (fin.get-insert nat_list_cmp_total m key d q) ∙ found); few = omega (arith, one_more m key d, few) }
+  where
+    go : (q : List ℕ) (e : ValueUntil) (b : Bool) → eq_by_cmp order q key ≡ b → cond (eq_by_cmp order q key) (Some d) (fin.get m q) ≡ Some e → IsShort q e
+    go q e true t found =
+        let same : cond (eq_by_cmp order q key) (Some d) (fin.get m q) ≡ Some d = rw t refl in
+        let value : d ≡ e = cc in
+        subst (λ k. IsShort k e) (sym (same_keys q key (is_equal _ t))) (subst (IsShort key) value short)
+    go q e false t found =
+        let same : cond (eq_by_cmp order q key) (Some d) (fin.get m q) ≡ fin.get m q = rw t refl in
+        s.short q e (sym same ∙ found)
+
+pub small_empty : IsSmall fin.empty
+small_empty = record { short = λ q e found. nothing q e (sym (fin.get-empty order q) ∙ found); few = omega (arith, fin.len-empty order ValueUntil) }
+  where
+    nothing : (q : List ℕ) (e : ValueUntil) → None ≡ Some e → IsShort q e
+    nothing q e f = absurd cc
 
 pub packable_from : (flag : Bool) (es : List Entry) → AllPack flag es → Packable flag (fin.from_entries es)
 packable_from flag es p q d e = found_pack flag es p q d (sym (fin.get-from_entries nat_list_cmp_total es q) ∙ e)
@@ -275,6 +309,23 @@ pub packed_map : (flag : Bool) (m : Map) → Packable flag m → option_and_then
 packed_map flag m p =
     let a = all_pack flag m p in
     rw (packed_items flag m p) (rw (items_have flag (fin.entries m) a) (ap Some (items_again flag (fin.entries m) fin.empty a ∙ refolded m)))
+
+-- the same in the words of the definitions
+packs_of : (flag : Bool) (key : List ℕ) (d : ValueUntil) → IsPackablePair flag key d → Packs flag key d
+packs_of flag key d p =
+    record {
+      key_some = p.key_some;
+      key_short = omega (arith, p.key_short);
+      key_small = Small-from key p.key_bytes;
+      value_some = p.value_some;
+      value_short = omega (arith, p.value_short);
+      value_small = Small-from d.value p.value_bytes;
+      expiry_small = p.expiry_small;
+      no_expiry = p.no_expiry;
+    }
+
+pub read_again : (flag : Bool) (m : Map) → IsPackable flag m → map_in flag (packed flag m) ≡ Some m
+read_again flag m p = packed_map flag m (λ key d e. packs_of flag key d (p key d e))
 
 -- payloads are bytes
 shortest_small : (k n : ℕ) → Small (shortest_in k n)

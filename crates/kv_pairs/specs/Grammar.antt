@@ -24,3 +24,9 @@ pub record IsGreedy (bytes : List ℕ) (size : ℕ) (items : List Item) : Type 0
   pub within : size ≤ length bytes
   pub front : IsPayloadOf (take size bytes) items
   pub longest : (longer : ℕ) (others : List Item) → longer ≤ length bytes → IsPayloadOf (take longer bytes) others → longer ≤ size
+
+-- the longest front that is units one after another is of this size and has these items
+pub record IsLongestRun (bytes : List ℕ) (size : ℕ) (items : List Item) : Type 0 where
+  pub within : size ≤ length bytes
+  pub front : Units (take size bytes) items
+  pub longest : (longer : ℕ) (others : List Item) → longer ≤ length bytes → Units (take longer bytes) others → longer ≤ size

@@ -48,6 +48,10 @@ units_in (suc k) bytes =
 abbrev pub units_at : List ℕ → List Item × List ℕ
 units_at bytes = units_in (length bytes) bytes
 
+-- the bytes that these units take
+abbrev pub run_size : List ℕ → ℕ
+run_size bytes = length bytes - length (units_at bytes).1
+
 -- the items that a payload begins with, as far as it can be read, and the bytes behind them
 unfoldable pub read_payload : List ℕ → List Item × List ℕ
 read_payload bytes = option_map_or (λ n. units_at n.1) (length_at bytes) ([], bytes)

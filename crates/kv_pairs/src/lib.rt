@@ -1,6 +1,16 @@
 //! Lengths, items and packed maps: how pairs are spelled in a payload.
 #![tactic(auto)]
 
+mod decode;
+mod growth;
 mod item;
+mod length;
+mod maps;
+mod packed;
 
+pub use decode::{ItemsStop, decode_all, decode_from, decode_greedy};
+pub use growth::grown_size;
 pub use item::{Item, Items};
+pub use length::{LengthFault, length_size, read_length, write_length};
+pub use maps::{MapStop, extend, has_map, map_greedy, map_of};
+pub use packed::{a_packed_map_is_read_again, append_item, item_size, pack, packed_size};

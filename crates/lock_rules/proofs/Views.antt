@@ -1,14 +1,13 @@
 -- What the fields of a table say of the locks that they stand for.
-use Rattle.std.proofs.Common.{◌≡◌, ◌≢◌, ◌⊎◌, inl, inr, ℕ, suc, ◌+◌, ◌-◌, ◌^◌, ◌<◌, ◌≤◌, Bool, true, false, refl, ap, sym, ◌∙◌, arith, lit<}
-use Rattle.std.specs.Prelude.{Option, Some, None, ◌||◌, ◌==◌, IsTrue, IfSome, IfNone}
-use Rattle.std.specs.Option.{option_map_or}
+use Rattle.std.proofs.Common.{◌≡◌, ◌≢◌, inl, inr, ℕ, suc, ◌^◌, ◌<◌, ◌≤◌, true, false, refl, ap, sym, ◌∙◌, arith, lit<}
+use Rattle.std.specs.Prelude.{Option, Some, None, IfSome, IfNone}
 use Rattle.std.specs.Ordering.{nat_cmp}
 use Rattle.std.specs.FinSet as set
 use Rattle.std.specs.Int.{bit_at}
 use Rattle.std.proofs.lemmas.Nat.Bits.{bit_at-zero, bit_at-lt, same_from_bits_below}
 use Rattle.std.proofs.lemmas.Bool.Decides.{nat_tests}
-use Rattle.lock_rules.specs.Locks.{Locks, IsSound, holds, unlocked, MayTake, with_lock, without_holder, IsAgainst, IsLeastAgainst}
-use Rattle.lock_rules.specs.Holders.{AreHolders, holders_of, IsApart, StandsAlone}
+use Rattle.lock_rules.specs.Locks.{Locks, IsSound, holds, MayTake, IsLeastAgainst}
+use Rattle.lock_rules.specs.Holders.{AreHolders, holders_of, IsApart}
 use Rattle.lock_rules.specs.declared.table.LockKind.{LockKind}
 use Rattle.lock_rules.specs.declared.table.LockKind.TheVariants.{Shared, Exclusive}
 use Rattle.lock_rules.proofs.Holding.{holder_is, is_holder, holders_of-none}

@@ -77,6 +77,13 @@ impl LockTable {
         Tried::Taken
     }
 
+    /// Whether this opener holds the lock.
+    pub fn holds(&self, who: u32) -> bool
+        ensures { result ≡ holds self.now who }
+    {
+        self.exclusive == Some(who) || has_bit(self.shared, who)
+    }
+
     /// Gives up what this holder holds.
     pub fn give_up(&mut self, who: u32)
         requires { holds self.old who ≡ true }
@@ -112,6 +119,16 @@ impl LockTable {
     }
 }
 
+fn has_bit(bits: u64, who: u32) -> bool
+    ensures { result ≡ set.contains (holders_of bits) who }
+{
+    if 1 <= who && who <= 64 {
+        (bits >> (who - 1)) & 1 == 1
+    } else {
+        false
+    }
+}
+
 // These bits and that of one more holder.
 fn with_bit(bits: u64, who: u32) -> u64
     requires least { 1 ≤ who }
@@ -140,4 +157,75 @@ fn least_of(bits: u64) -> u32
     ensures least { (h : ℕ) → set.contains (holders_of bits) h ≡ true → result ≤ h }
 {
     bits.trailing_zeros() + 1
+}
+
+#[cfg(test)]
+mod tests {
+    use super::*;
+
+    // The answer to a try, where the opener holds nothing.
+    fn tried(table: &mut LockTable, who: u32, kind: LockKind) -> Option<Tried>
+        requires least { 1 ≤ who }
+        requires most { who ≤ 64 }
+    {
+        if table.holds(who) {
+            return None;
+        }
+        Some(table.try_take(who, kind))
+    }
+
+    #[test]
+    fn the_least_holder_is_named_and_a_death_frees_its_lock(rt: HostRuntime) {
+        let mut table = LockTable::new();
+        assert_eq!(rt; tried(&mut table, 1, LockKind::Shared), Some(Tried::Taken));
+        assert_eq!(rt; tried(&mut table, 2, LockKind::Shared), Some(Tried::Taken));
+        assert_eq!(rt; tried(&mut table, 2, LockKind::Exclusive), None);
+        assert_eq!(rt;
+            tried(&mut table, 3, LockKind::Exclusive),
+            Some(Tried::Busy(1))
+        );
+        table.died(1);
+        assert_eq!(rt;
+            tried(&mut table, 3, LockKind::Exclusive),
+            Some(Tried::Busy(2))
+        );
+        table.died(2);
+        assert_eq!(rt;
+            tried(&mut table, 3, LockKind::Exclusive),
+            Some(Tried::Taken)
+        );
+        assert_eq!(rt;
+            tried(&mut table, 64, LockKind::Shared),
+            Some(Tried::Busy(3))
+        );
+        assert!(rt; table.holds(3));
+        table.give_up(3);
+        assert_eq!(rt;
+            tried(&mut table, 64, LockKind::Exclusive),
+            Some(Tried::Taken)
+        );
+    }
+
+    #[test]
+    fn all_64_openers_may_share(rt: HostRuntime) {
+        let mut table = LockTable::new();
+        for who in 1..65u32 {
+            assert_eq!(rt;
+                tried(&mut table, who, LockKind::Shared),
+                Some(Tried::Taken)
+            );
+        }
+        for who in 1..64u32 {
+            table.died(who);
+            let answer = tried(&mut table, who, LockKind::Exclusive);
+            assert_eq!(rt; answer, Some(Tried::Busy(who + 1)));
+        }
+        table.died(65);
+        table.died(0);
+        table.died(64);
+        assert_eq!(rt;
+            tried(&mut table, 64, LockKind::Exclusive),
+            Some(Tried::Taken)
+        );
+    }
 }

@@ -1,12 +1,12 @@
-use Rattle.std.specs.Prelude.{◌≡◌, ℕ, ◌-◌, ◌%◌, ◌<◌, ◌≤◌, ◌⊎◌, Bool, List, Option, Some, None, length, All, IsOk, option_and_then, is_some, unwrap_or, ◌==◌, if◌then◌else◌}
+use Rattle.std.specs.Prelude.{◌≡◌, ℕ, ◌-◌, ◌%◌, ◌<◌, ◌≤◌, ◌⊎◌, Bool, List, Option, Some, None, length, All, IsOk, Result, Ok, Err, option_and_then, is_some, unwrap_or, ◌==◌, if◌then◌else◌}
 use Rattle.std.specs.FinMap as fin
 use Rattle.expiring_map.specs.Map.{Map}
-use Rattle.kv_pairs.specs.Reading.{items_of}
-use Rattle.kv_pairs.specs.Mapped.{map_of}
+pub use Rattle.kv_pairs.specs.Mapped.{map_in}
 use Rattle.kv_pairs.specs.Growth.{largest}
 use Rattle.meta_record.specs.Words.{word_at, fits, payload}
 use Rattle.meta_record.specs.Records.{record_at, checked, shown_size}
 use Rattle.meta_record.specs.declared.record.Record.{Record}
+use Rattle.meta_record.specs.declared.record.RecordFault.{RecordFault}
 use Rattle.meta_record.specs.declared.shown.Damage.TheVariants.{Content}
 use Rattle.meta_record.specs.declared.shown.Shown.{Shown}
 use Rattle.meta_record.specs.declared.shown.Shown.TheVariants.{Whole, Header, Last, Damaged}
@@ -26,6 +26,9 @@ pub record IsFile (bytes : List ℕ) (limit : ℕ) : Type 0 where
 pub record IsRegion (r : Region) : Type 0 where
   pub data_file : IsFile r.data_bytes largest
   pub meta_file : IsFile r.meta_bytes 65536
+
+abbrev pub region_of : List ℕ → List ℕ → Region
+region_of body meta = record { data_bytes = body; meta_bytes = meta }
 
 abbrev pub header : Region → ℕ
 header r = word_at r.data_bytes 0
@@ -47,10 +50,6 @@ payload_of r n = payload r.data_bytes n
 abbrev pub IsAccepted : Region → Type 0
 IsAccepted r = IsOk (checked (record_of r) (header r))
 
--- the map of a payload: none where it has no items, or its items have no map
-abbrev pub map_in : Bool → List ℕ → Option Map
-map_in flag bytes = option_and_then (map_of flag) (items_of bytes)
-
 -- an image without a map is damage
 abbrev pub if_it_has_a_map : Region → Shown → Shown
 if_it_has_a_map r (Whole n) = if is_some (map_in (flag r) (payload_of r n)) then Whole n else Damaged Content
@@ -61,6 +60,14 @@ if_it_has_a_map r (Damaged d) = Damaged d
 -- what a region shows
 unfoldable pub shown : Region → Shown
 shown r = if_it_has_a_map r (shown_size (record_of r) (header r) r.data_bytes)
+
+abbrev pub if_accepted : Result (Unit {0}) RecordFault → Shown → Result Shown RecordFault
+if_accepted (Ok _) s = Ok s
+if_accepted (Err fault) s = Err fault
+
+-- what an accepted region shows, or why it is refused
+abbrev pub shown_if_accepted : Region → Result Shown RecordFault
+shown_if_accepted r = if_accepted (checked (record_of r) (header r)) (shown r)
 
 -- the size of the image shown
 abbrev pub size_of : Shown → Option ℕ

@@ -38,3 +38,22 @@ SpellsValue bytes (value.U64 n) = IsNumber bytes n
 SpellsValue bytes (value.Text text) = IsText bytes text
 SpellsValue bytes (value.Blob blob) = IsText bytes blob
 SpellsValue bytes (value.Raw raw) = (bytes ≡ raw) × (0 < length raw)
+
+-- the bytes are a spelling of some value of this kind
+abbrev pub SpellsSome : List ℕ → Kind → Type 0
+SpellsSome bytes kind = (v : Value) × (kind_of v ≡ kind) × SpellsValue bytes v
+
+-- the bytes are no spelling of a value of this kind
+abbrev pub SpellsNone : List ℕ → Kind → Type 0
+SpellsNone bytes kind = (v : Value) → kind_of v ≡ kind → SpellsValue bytes v → ⊥
+
+-- a text or a blob is of fewer bytes than a length can tell
+abbrev pub HasLength : Value → Type 0
+HasLength (value.Text text) = length text < 2 ^ 31
+HasLength (value.Blob blob) = length blob < 2 ^ 31
+HasLength (value.Bool b) = Unit {0}
+HasLength (value.I32 z) = Unit {0}
+HasLength (value.U32 n) = Unit {0}
+HasLength (value.I64 z) = Unit {0}
+HasLength (value.U64 n) = Unit {0}
+HasLength (value.Raw raw) = Unit {0}

@@ -1,8 +1,6 @@
-use Rattle.std.proofs.Common.{◌≡◌, ℕ, suc, ◌+◌, ◌-◌, ◌<◌, ◌≤◌, ◌∙◌, ap, arith, true, add-one}
+use Rattle.std.proofs.Common.{◌≡◌, ℕ, ◌+◌, ◌-◌, ◌<◌, ◌≤◌, arith, add-one}
 use Rattle.std.specs.Int.{w64, trailing_zeros, bit_at}
-use Rattle.std.specs.FinSet as set
 use Rattle.std.proofs.lemmas.Nat.Bits.{bit_at-trailing_zeros}
-use Rattle.lock_rules.specs.Holders.{holders_of}
 use Rattle.lock_rules.proofs.Holding.{holder_is, is_holder}
 use Rattle.lock_rules.proofs.table.least_of.Goals as goal
 

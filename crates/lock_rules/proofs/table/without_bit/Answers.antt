@@ -17,5 +17,5 @@ returns-then-who-le64-clause-after c =
 pub returns-else-who-ge1-clause-after : goal.returns-else-who-ge1-clause-after
 returns-else-who-ge1-clause-after c =
     let beyond : 1 ≤ c.args.who → c.args.who ≤ 64 → ⊥ =
-      λ low high. elim c.else-who-ge1.branch [ else-who-ge1-via-then-who-ge1+else-who-le64 w ↦ absurd (omega (arith, w.if-who-le64.false)) | else-who-ge1-via-else-who-ge1 w ↦ absurd (omega (arith, w.if-who-ge1.false)) ] in
+    λ low high. elim c.else-who-ge1.branch [ else-who-ge1-via-then-who-ge1+else-who-le64 w ↦ absurd (omega (arith, w.if-who-le64.false)) | else-who-ge1-via-else-who-ge1 w ↦ absurd (omega (arith, w.if-who-ge1.false)) ] in
     not_held-remove (holders_of c.args.bits) c.args.who (out_of_range c.args.bits c.args.who beyond)

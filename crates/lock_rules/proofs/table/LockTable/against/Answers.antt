@@ -1,7 +1,7 @@
 use Rattle.std.proofs.Common.{ℕ, ◌≡◌, false, arith, subst}
 use Rattle.std.specs.Prelude.{IfSome, IfNone}
 use Rattle.lock_rules.specs.Locks.{Locks, holds, MayTake, IsLeastAgainst}
-use Rattle.lock_rules.proofs.Views.{by_exclusive, by_nobody, by_shared}
+use Rattle.lock_rules.proofs.Views.{by_exclusive, by_nobody}
 use Rattle.lock_rules.proofs.table.LockTable.against.Goals as goal
 
 pub returns-in-Exclusive-2-clause-some : goal.returns-in-Exclusive-2-clause-some

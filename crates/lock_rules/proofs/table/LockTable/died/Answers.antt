@@ -1,4 +1,3 @@
-use Rattle.std.proofs.Common.{arith, rules}
 use Rattle.std.specs.Prelude.{None}
 use Rattle.lock_rules.proofs.Views.{seen_sound, seen_within, apart_fewer}
 use Rattle.lock_rules.proofs.table.LockTable.died.Goals as goal

@@ -1,5 +1,5 @@
-use Rattle.std.proofs.Common.{arith, ap, lit<}
-use Rattle.std.specs.Prelude.{Option, None}
+use Rattle.std.proofs.Common.{ap, lit<}
+use Rattle.std.specs.Prelude.{None}
 use Rattle.std.specs.Ordering.{nat_cmp}
 use Rattle.std.specs.FinSet as set
 use Rattle.lock_rules.specs.Locks.{Locks}

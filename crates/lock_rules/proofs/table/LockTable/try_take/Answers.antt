@@ -1,9 +1,7 @@
-use Rattle.std.proofs.Common.{◌≡◌, ◌∙◌, ℕ, ap, sym, subst, arith}
-use Rattle.std.specs.Prelude.{Option, None, Some}
-use Rattle.std.specs.Ordering.{nat_cmp}
-use Rattle.std.specs.FinSet as set
-use Rattle.lock_rules.specs.Locks.{Locks, IsSound, MayTake, IsLeastAgainst}
-use Rattle.lock_rules.specs.Holders.{AreHolders, IsApart}
+use Rattle.std.proofs.Common.{◌≡◌, ◌∙◌, ℕ, ap, subst}
+use Rattle.std.specs.Prelude.{None, Some}
+use Rattle.lock_rules.specs.Locks.{Locks, IsSound, IsLeastAgainst}
+use Rattle.lock_rules.specs.Holders.{AreHolders}
 use Rattle.lock_rules.proofs.Against.{none_against, least_once}
 use Rattle.lock_rules.proofs.Views.{seen_sound, seen_within, none_exclusive, none_shared, no_bits, apart_alone}
 use Rattle.lock_rules.proofs.table.LockTable.try_take.Goals as goal

@@ -1,0 +1,3 @@
+pub mod Command
+pub mod Ending
+pub mod Due

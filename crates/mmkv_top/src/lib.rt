@@ -1,0 +1,10 @@
+//! The top call of the program `mmkv`: a command over a shelf of stores.
+#![tactic(auto)]
+
+mod command;
+mod dump;
+mod ending;
+mod top;
+
+pub use ending::Status;
+pub use top::run;
