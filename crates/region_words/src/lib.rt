@@ -3,6 +3,7 @@
 
 mod account;
 mod clock;
+mod copies;
 mod event;
 mod failing;
 mod id;

@@ -12,12 +12,15 @@ ghost use Rattle.lock_rules.specs.Locks.{MayTake};
 ghost use Rattle.meta_record.specs.Words.{grown_to, torn};
 
 use crate::account::Account;
+use crate::copies::changes_in;
 use crate::event::{Event, Mark, Side, TornWord, What};
 use crate::failing::Failing;
 use crate::pages::fill_up;
 use crate::places::{AdmitStop, make_room};
 use crate::shelf::{LARGEST_DATA, LARGEST_META};
 use crate::stops::TornStore;
+use change_log::Changes;
+use expiring_map::Memory;
 use lock_rules::{LockKind, LockTable, Tried};
 use meta_record::{load_word, store_word};
 use std::alloc::Global;
@@ -116,6 +119,13 @@ impl LocalRegion {
         ensures lawful { Lawful self.now.start self.now.past }
     {
         &self.journal
+    }
+
+    /// The changes that are marked in the journal, the first of them first.
+    pub fn changes(&self, alloc: Global) -> Result<Changes, Memory>
+        ensures { IfOk result (λ changes. changes ≡ changes_of self.now.past) }
+    {
+        changes_in(alloc, &self.journal)
     }
 
     /// The data and the meta bytes; their memory is handed over.
