@@ -1,5 +1,5 @@
 // A seat at a region in memory: a share that owns it.
-ghost use Rattle.std.specs.Prelude.{◌≡◌, ◌+◌, ◌≤◌, false, length, IfErr, OnOk};
+ghost use Rattle.std.specs.Prelude.{◌≡◌, ◌+◌, ◌≤◌, false, Some, None, length, IfErr, IfSome, OnOk};
 ghost use Rattle.region_words.specs.Share.{IsNotDue, Fails, most_events};
 ghost use Rattle.region_words.specs.Local.{Seated, IsLocal, LacksPlaces, seat_state, seat_called, account_of, with_account, after_admission, kept_in, stop_of};
 
@@ -201,5 +201,77 @@ impl Share for LocalSeat {
         let torn = self.region.torn_word(torn);
         self.region.note(self.who, What::Died { torn });
         Ok(())
+    }
+}
+
+#[cfg(test)]
+mod tests {
+    use super::*;
+    use std::alloc::Global;
+
+    // A fresh region whose opener 1 may make events; the calls of these numbers are to fail.
+    fn admitted(alloc: Global, fails: Vec<u64>) -> Option<LocalSeat>
+        ensures alive { IfSome result (λ s. (seat_state s).ended ≡ false) }
+        ensures free { IfSome result (λ s. (seat_state s).holds ≡ None) }
+    {
+        let mut region = LocalRegion::new(alloc, Vec::new(alloc), Vec::new(alloc)).ok()?;
+        region.fail_at(fails);
+        region.admit(1).ok()?;
+        Some(region.seat(1))
+    }
+
+    fn holder(alloc: Global) -> Option<LocalSeat>
+        ensures alive { IfSome result (λ s. (seat_state s).ended ≡ false) }
+        ensures held { IfSome result (λ s. (seat_state s).holds ≡ Some LockKind.Exclusive) }
+    {
+        let mut seat = admitted(alloc, Vec::new(alloc))?;
+        match seat.try_lock(LockKind::Exclusive) {
+            Ok(Tried::Taken) => Some(seat),
+            _ => None,
+        }
+    }
+
+    #[test]
+    fn a_full_journal_reserves_nothing(rt: HostRuntime) {
+        let mut seat = holder(rt.alloc()).expect(&rt, "ample memory");
+        assert_eq!(rt; seat.reserve(4_194_302, 0), Err(ShareStop::JournalFull));
+        assert_eq!(rt; seat.reserve(2, 8192), Ok(()));
+    }
+
+    #[test]
+    fn a_fresh_region_is_a_page_of_zeros(rt: HostRuntime) {
+        let mut seat = holder(rt.alloc()).expect(&rt, "ample memory");
+        assert_eq!(rt; seat.size(), Ok(4096));
+        assert_eq!(rt;
+            seat.peek_checksum(),
+            Ok(Peek {
+                checksum: 0,
+                changes: 0
+            })
+        );
+        assert_eq!(rt; seat.peek_sequence(), Ok(0));
+    }
+
+    #[test]
+    fn a_listed_call_is_a_death(rt: HostRuntime) {
+        let alloc = rt.alloc();
+        let mut calls = Vec::new(alloc);
+        calls.push(1).expect(&rt, "ample memory");
+        let mut seat = admitted(alloc, calls).expect(&rt, "ample memory");
+        assert_eq!(rt; seat.try_lock(LockKind::Shared), Ok(Tried::Taken));
+        assert_eq!(rt; seat.size(), Err(ShareStop::Failed));
+        assert_eq!(rt; seat.region().journal().len(), 2);
+    }
+
+    #[test]
+    fn a_death_is_noted(rt: HostRuntime) {
+        let mut seat = holder(rt.alloc()).expect(&rt, "ample memory");
+        assert_eq!(rt; seat.die(None), Ok(()));
+        let region = seat.into_region();
+        assert_eq!(rt; region.journal().len(), 2);
+        let changes = region.changes(rt.alloc()).expect(&rt, "ample memory");
+        assert_eq!(rt; changes.as_slice().len(), 0);
+        let (body, meta) = region.into_bytes();
+        assert_eq!(rt; (body.len(), meta.len()), (4096, 4096));
     }
 }
