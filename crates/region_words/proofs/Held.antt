@@ -84,7 +84,7 @@ kept_without locks other who n h =
     ]
 
 -- another can't store while this one holds
-no_other : (locks : Locks) (other who : ℕ) → other ≢ who → IsSound locks → holds locks who ≡ true → IsTrue (holds_exclusive locks other) → ⊥
+pub no_other : (locks : Locks) (other who : ℕ) → other ≢ who → IsSound locks → holds locks who ≡ true → IsTrue (holds_exclusive locks other) → ⊥
 unfolding IsSound
 no_other locks other who n s h e =
     elim (two_ways locks.exclusive (set.contains locks.shared who) who h) [
