@@ -14,6 +14,7 @@ use Rattle.region_words.specs.Past.{region_after, region_step, changes_of, locks
 use Rattle.region_words.specs.Apart.{Apart}
 use Rattle.region_words.specs.Lawful.{Lawful, IsPossible, Phase, Between, Reaches, IsStep, Dies, Advances, map_after}
 use Rattle.region_words.specs.Images.{IsResting}
+use Rattle.region_words.specs.Coming.{IsStoring}
 use Rattle.region_words.specs.Share.{lock_of}
 use Rattle.region_words.specs.Local.{event_of, lock_after}
 use Rattle.region_words.specs.declared.event.What.{What}
@@ -79,14 +80,8 @@ reaches_later start (e ∷ others) past who phase l n mine run = (
   phase,
   reaches_later start others past who phase l.0 n.1 mine run,
   quiet (region_after start (others ++ past)) (map_after start (others ++ past)) (locks_after (others ++ past)) e.who who e.what phase n.0 l.1.possible
-  (locks_sound start (others ++ past) l.0) (lock_others start others past who l.0 n.1 ∙ mine),
+      (locks_sound start (others ++ past) l.0) (lock_others start others past who l.0 n.1 ∙ mine),
 )
-
--- a store or a growth
-abbrev pub IsStoring : What → Type 0
-IsStoring (Store side word value mark) = ⊤
-IsStoring (Grow size) = ⊤
-IsStoring _ = ⊥
 
 storing_possible : (r s : Region) (locks now : Locks) (who : ℕ) (what : What) → IsStoring what → s ≡ r → IsTrue (holds_exclusive now who) → IsPossible r locks who what → IsPossible s now who what
 storing_possible r s locks now who (Store side word value mark) is same mine p = let q = subst (λ x. IsPossible x locks who (Store side word value mark)) (sym same) p in (mine, q.1, q.2, q.3, q.4)
@@ -119,9 +114,14 @@ store_later start others past who what is l now n mine =
         accepted = λ ok. subst (λ r. IsAccepted (region_step r what)) (sym same.0) (l.1.accepted ok);
       },
       λ apart.
-          let run = l.2 (apart_front start others past apart) in
-          (run.0, (run.1.0, reaches_later start others past who run.1.0 now n mine run.1.1,
-          storing_step (region_after start past) (region_after start (others ++ past)) (map_after start past) (map_after start (others ++ past)) (locks_after past) (locks_after (others ++ past)) who run.1.0 run.0 what is same.0 map_is run.1.2)),
+          let run = l.2 (apart_front start others past apart) in (
+            run.0,
+            (
+              run.1.0,
+              reaches_later start others past who run.1.0 now n mine run.1.1,
+              storing_step (region_after start past) (region_after start (others ++ past)) (map_after start past) (map_after start (others ++ past)) (locks_after past) (locks_after (others ++ past)) who run.1.0 run.0 what is same.0 map_is run.1.2,
+            ),
+          ),
     )
 
 -- and so is its unlock

@@ -1,5 +1,5 @@
 // A share that tells nothing of its journal, as one over real files: a test of the trait.
-ghost use Rattle.std.specs.Prelude.{◌≡◌};
+ghost use Rattle.std.specs.Prelude.{◌≡◌, None, false};
 ghost use Rattle.region_words.specs.Outside.{one_more};
 
 use crate::event::{Mark, Side};
@@ -18,7 +18,9 @@ struct Mute {
 }
 
 impl Mute {
-    fn new() -> Self {
+    fn new() -> Self
+        ensures { result ≡ record { lock = None; ended = false; places = 0; room = 0; loads = 0 } }
+    {
         Mute {
             lock: None,
             ended: false,
@@ -104,5 +106,30 @@ impl Share for Mute {
         self.lock = None;
         self.ended = true;
         Ok(())
+    }
+}
+
+#[cfg(test)]
+mod tests {
+    use super::*;
+    use crate::event::Mark;
+
+    // A share is used by its clauses alone, as of another type.
+    fn reserve_and_store<S: Share>(share: &mut S) -> Result<(), ShareStop>
+        requires alive { (S.state share.old).ended ≡ false }
+        requires free { (S.state share.old).holds ≡ None }
+        requires untold { (S.state share.old).told ≡ None }
+    {
+        if share.try_lock(LockKind::Exclusive)? == Tried::Taken {
+            share.reserve(1, 0)?;
+        }
+        Ok(())
+    }
+
+    #[test]
+    fn a_share_that_tells_nothing_is_used_by_its_clauses(rt: HostRuntime) {
+        let mut share = Mute::new();
+        assert_eq!(rt; share.size(), Ok(4096));
+        assert_eq!(rt; reserve_and_store(&mut share), Ok(()));
     }
 }
