@@ -1,8 +1,8 @@
 -- The accounts of a region in memory agree with what has happened, whatever comes.
-use Rattle.std.proofs.Common.{◌≡◌, ◌≢◌, ℕ, zero, suc, ◌+◌, ◌-◌, ◌≤◌, ◌<◌, Bool, true, false, eqb, List, [], ◌∷◌, length, get_or, set, refl, sym, subst, ap, ◌∙◌, arith, inl, inr, ◌⊎◌, ◌&&◌, ◌||◌, not, cond, get_or-set_other, get_or-set_same}
+use Rattle.std.proofs.Common.{◌≡◌, ◌≢◌, ℕ, zero, suc, ◌+◌, ◌-◌, ◌≤◌, ◌<◌, Bool, true, false, eqb, List, ◌∷◌, length, set, refl, sym, subst, ap, ◌∙◌, arith, inl, inr, ◌⊎◌, ◌&&◌, ◌||◌, not, get_or-set_other, get_or-set_same}
 use Rattle.std.proofs.lemmas.List.{length-set}
 use Rattle.std.proofs.lemmas.Bool.Decides.{eqb_tells, nat_tests}
-use Rattle.std.specs.Prelude.{Option, Some, None, IsTrue, nat_lt, ◌==◌, ⊤}
+use Rattle.std.specs.Prelude.{Option, Some, None, IsTrue, nat_lt, ◌==◌}
 use Rattle.std.specs.Option.{option_map_or}
 use Rattle.std.specs.Ordering.{nat_cmp}
 use Rattle.std.specs.FinSet as set
@@ -10,16 +10,16 @@ use Rattle.lock_rules.specs.Locks.{Locks, holds, holds_exclusive, MayTake}
 use Rattle.lock_rules.specs.declared.table.LockKind.{LockKind}
 use Rattle.lock_rules.specs.declared.table.LockKind.TheVariants.{Shared, Exclusive}
 use Rattle.region_words.specs.Region.{Region}
-use Rattle.region_words.specs.Past.{region_after, locks_after, locks_step, has_died, is_death}
+use Rattle.region_words.specs.Past.{region_after, locks_after, has_died, is_death}
 use Rattle.region_words.specs.Lawful.{Lawful, IsPossible}
-use Rattle.region_words.specs.Share.{lock_of, unlock_place, total, most_events}
-use Rattle.region_words.specs.Local.{Local, IsLocal, IsAccount, IsKeptFor, HasRoomFor, HasPlace, account_of, no_account, account_after, kept_in, lock_after, reserved_in, with_event, event_of, with_account, after_admission, after_reserve}
+use Rattle.region_words.specs.Share.{lock_of, unlock_place, most_events}
+use Rattle.region_words.specs.Local.{Local, IsLocal, IsAccount, IsKeptFor, HasRoomFor, HasPlace, account_of, no_account, account_after, kept_in, lock_after, with_event, event_of, with_account, after_admission, after_reserve}
 use Rattle.region_words.specs.declared.account.Account.{Account}
 use Rattle.region_words.specs.declared.event.What.{What}
 use Rattle.region_words.specs.declared.event.What.TheVariants.{Store, Grow, Lock, Unlock, Died}
 use Rattle.region_words.specs.declared.event.Event.{Event}
-use Rattle.region_words.proofs.Totals.{total_set, total_same}
-use Rattle.region_words.proofs.LockOf.{exclusive_holds, holds_none, none_holds, holds_some, is_exclusive, lock_other, lock_without, lock_with, died_other}
+use Rattle.region_words.proofs.Totals.{total_set}
+use Rattle.region_words.proofs.LockOf.{exclusive_holds, holds_none, none_holds, is_exclusive, lock_other, lock_without, lock_with, died_other}
 
 pub own_account : (accounts : List Account) (who : ℕ) (a : Account) → who < length accounts → account_of (set accounts who a) who ≡ a
 own_account accounts who a inside = get_or-set_same accounts who a no_account inside

@@ -1,15 +1,15 @@
 -- A row goes on, event by event.
-use Rattle.std.proofs.Common.{◌≡◌, ◌≢◌, ℕ, ◌≤◌, false, List, [], ◌∷◌, ◌++◌, refl, sym, ◌∙◌, subst, ap}
-use Rattle.std.specs.Prelude.{Option, Some, None, ⊤}
+use Rattle.std.proofs.Common.{◌≡◌, ℕ, List, [], ◌∷◌, ◌++◌, refl, sym, subst, ap}
+use Rattle.std.specs.Prelude.{Some}
 use Rattle.expiring_map.specs.Map.{Map}
 use Rattle.change_log.specs.Acts.{replay}
 use Rattle.lock_rules.specs.Locks.{Locks}
 use Rattle.lock_rules.specs.declared.table.LockKind.TheVariants.{Exclusive}
-use Rattle.region_words.specs.Region.{Region, IsAccepted, base}
-use Rattle.region_words.specs.Past.{region_after, locks_after, has_died, NoneOf}
+use Rattle.region_words.specs.Region.{Region, base}
+use Rattle.region_words.specs.Past.{region_after, locks_after, NoneOf}
 use Rattle.region_words.specs.Rows.{Row}
 use Rattle.region_words.specs.Apart.{Apart}
-use Rattle.region_words.specs.Lawful.{Lawful, IsPermitted, IsPossible, Phase, Between, Within, Reaches, MayComeNext, IsStep, room_of, phase_with, map_after}
+use Rattle.region_words.specs.Lawful.{Lawful, IsPermitted, Phase, Between, Within, Reaches, MayComeNext, IsStep, room_of, phase_with, map_after}
 use Rattle.region_words.specs.Local.{event_of, lock_after}
 use Rattle.region_words.specs.Coming.{IsComing, IsStoring}
 use Rattle.region_words.specs.declared.event.What.{What}

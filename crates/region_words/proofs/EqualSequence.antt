@@ -3,11 +3,9 @@ use Rattle.std.proofs.Common.{◌≡◌, ℕ, ◌+◌, ◌/◌, ◌≤◌, Bool,
 use Rattle.std.specs.Prelude.{Some, None, Option}
 use Rattle.std.specs.List.{AllByRecursion}
 use Rattle.std.proofs.lemmas.List.Elements.{Contains-append_left, Contains-append_right}
-use Rattle.expiring_map.specs.Map.{Map}
 use Rattle.lock_rules.specs.Locks.{Locks, holds_exclusive}
-use Rattle.meta_record.specs.declared.shown.Shown.TheVariants.{Whole}
 use Rattle.change_log.specs.declared.change.Change.{Change}
-use Rattle.region_words.specs.Region.{Region, IsRegion, record_of, shown, map_shown}
+use Rattle.region_words.specs.Region.{Region, IsRegion}
 use Rattle.region_words.specs.Past.{region_after, region_step, changes_of, change_of, locks_after, with_data_word}
 use Rattle.region_words.specs.Apart.{Apart, strings, recorded_payloads, meant_by}
 use Rattle.region_words.specs.Rows.{Row}

@@ -1,12 +1,11 @@
 -- The fields of a region in memory keep what they say, whatever is done.
-use Rattle.std.proofs.Common.{◌≡◌, ◌≢◌, ℕ, ◌+◌, ◌-◌, ◌≤◌, ◌<◌, List, [], ◌∷◌, ◌++◌, length, set, refl, sym, subst, ap, ◌∙◌, arith, length-append}
-use Rattle.std.specs.Prelude.{⊤}
+use Rattle.std.proofs.Common.{◌≡◌, ℕ, ◌+◌, ◌≤◌, ◌<◌, List, [], ◌∷◌, length, set, sym, ap, ◌∙◌, arith, length-append}
 use Rattle.lock_rules.specs.Locks.{Locks}
 use Rattle.region_words.specs.Region.{Region}
 use Rattle.region_words.specs.Past.{region_after, region_step, changes_of, change_of, locks_after, locks_step}
 use Rattle.region_words.specs.Lawful.{Lawful, IsPossible}
 use Rattle.region_words.specs.Share.{most_events, unlock_place}
-use Rattle.region_words.specs.Local.{Local, IsLocal, IsAccount, Keeps, HasPlace, HasRoomFor, IsKeptFor, TakesPlace, HasRoomToGrow, account_of, account_after, kept_in, lock_after, with_event, event_of, with_account}
+use Rattle.region_words.specs.Local.{Local, IsAccount, Keeps, HasPlace, TakesPlace, HasRoomToGrow, account_of, account_after, kept_in, lock_after, with_event, event_of, with_account}
 use Rattle.region_words.specs.Opening.{LiesIn, HasBytes, IsNoLock}
 use Rattle.region_words.specs.declared.account.Account.{Account}
 use Rattle.region_words.specs.declared.event.Side.TheVariants.{Data, Meta}

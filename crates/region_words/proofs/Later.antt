@@ -1,6 +1,6 @@
 -- What an opener that holds the lock exclusive may do, it may still do after what others did meanwhile.
-use Rattle.std.proofs.Common.{◌≡◌, ◌≢◌, ℕ, ◌≤◌, Bool, true, false, List, [], ◌∷◌, ◌++◌, refl, sym, ◌∙◌, subst, ap, inl, inr, ◌⊎◌, arith}
-use Rattle.std.specs.Prelude.{Option, Some, None, IsTrue, ⊤, ◌==◌}
+use Rattle.std.proofs.Common.{◌≡◌, ◌≢◌, ℕ, ◌≤◌, Bool, true, false, List, [], ◌∷◌, ◌++◌, refl, sym, ◌∙◌, subst, ap, inl, inr, arith}
+use Rattle.std.specs.Prelude.{Option, Some, None, IsTrue, ◌==◌}
 use Rattle.std.specs.Option.{option_map_or}
 use Rattle.std.specs.FinSet as set
 use Rattle.std.proofs.lemmas.Bool.Decides.{nat_tests}
@@ -8,10 +8,9 @@ use Rattle.expiring_map.specs.Map.{Map}
 use Rattle.change_log.specs.Acts.{replay}
 use Rattle.lock_rules.specs.Locks.{Locks, IsSound, holds, holds_exclusive}
 use Rattle.lock_rules.specs.declared.table.LockKind.{LockKind}
-use Rattle.lock_rules.specs.declared.table.LockKind.TheVariants.{Shared, Exclusive}
+use Rattle.lock_rules.specs.declared.table.LockKind.TheVariants.{Exclusive}
 use Rattle.region_words.specs.Region.{Region, IsAccepted, base}
-use Rattle.region_words.specs.Past.{region_after, region_step, changes_of, locks_after, has_died, NoneOf}
-use Rattle.region_words.specs.Apart.{Apart}
+use Rattle.region_words.specs.Past.{region_after, region_step, locks_after, has_died, NoneOf}
 use Rattle.region_words.specs.Lawful.{Lawful, IsPossible, Phase, Between, Reaches, IsStep, Dies, Advances, map_after}
 use Rattle.region_words.specs.Images.{IsResting}
 use Rattle.region_words.specs.Coming.{IsStoring}
@@ -19,7 +18,6 @@ use Rattle.region_words.specs.Share.{lock_of}
 use Rattle.region_words.specs.Local.{event_of, lock_after}
 use Rattle.region_words.specs.declared.event.What.{What}
 use Rattle.region_words.specs.declared.event.What.TheVariants.{Store, Grow, Lock, Unlock, Died}
-use Rattle.region_words.specs.declared.event.TornWord.{TornWord}
 use Rattle.region_words.specs.declared.event.Event.{Event}
 use Rattle.region_words.proofs.Held.{held, no_other, locks_sound, two_ways}
 use Rattle.region_words.proofs.ReadLaws.{apart_front, run_of}

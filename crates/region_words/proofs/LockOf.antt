@@ -1,5 +1,5 @@
 -- The lock that an opener holds, after its own events and those of others.
-use Rattle.std.proofs.Common.{◌≡◌, ◌≢◌, ℕ, Bool, true, false, List, [], ◌∷◌, refl, sym, ap, ◌∙◌, inl, inr, ◌⊎◌, arith, ◌&&◌, ◌||◌, not, cond}
+use Rattle.std.proofs.Common.{◌≡◌, ◌≢◌, ℕ, Bool, true, false, List, ◌∷◌, refl, sym, ap, ◌∙◌, arith, ◌&&◌, ◌||◌, not, cond}
 use Rattle.std.specs.Prelude.{Option, Some, None, IsTrue, ◌==◌, if◌then◌else◌}
 use Rattle.std.specs.Option.{option_map_or}
 use Rattle.std.specs.Ordering.{nat_cmp, eq_by_cmp}
@@ -10,7 +10,7 @@ use Rattle.lock_rules.specs.Locks.{Locks, holds, holds_exclusive, without_holder
 use Rattle.lock_rules.specs.declared.table.LockKind.{LockKind}
 use Rattle.lock_rules.specs.declared.table.LockKind.TheVariants.{Shared, Exclusive}
 use Rattle.region_words.specs.Region.{Region}
-use Rattle.region_words.specs.Past.{locks_step, locks_after, has_died}
+use Rattle.region_words.specs.Past.{locks_step, has_died}
 use Rattle.region_words.specs.Lawful.{IsPossible}
 use Rattle.region_words.specs.Share.{lock_of}
 use Rattle.region_words.specs.declared.event.What.{What}

@@ -1,14 +1,12 @@
 -- A region of two files in which nothing has happened.
-use Rattle.std.proofs.Common.{◌≡◌, ℕ, zero, suc, ◌+◌, ◌-◌, ◌*◌, ◌/◌, ◌%◌, ◌<◌, ◌≤◌, Bool, true, false, List, [], ◌∷◌, ◌++◌, length, replicate, get_or, refl, sym, subst, ap, ◌∙◌, arith, length-append}
-use Rattle.std.specs.Prelude.{None, Some, All, max, nat_lt, slice_index_or, if◌then◌else◌}
+use Rattle.std.proofs.Common.{◌≡◌, ℕ, zero, suc, ◌-◌, ◌%◌, ◌<◌, ◌≤◌, Bool, true, false, List, [], length, replicate, refl, sym, subst, ap, ◌∙◌, arith, length-append}
+use Rattle.std.specs.Prelude.{None, Some, All, max, nat_lt, if◌then◌else◌}
 use Rattle.std.proofs.lemmas.List.{length-replicate}
 use Rattle.std.proofs.lemmas.Bool.Decides.{nat_tests}
-use Rattle.kv_pairs.specs.Growth.{largest}
 use Rattle.lock_rules.specs.Locks.{unlocked}
-use Rattle.region_words.specs.Region.{Region, IsRegion, IsFile}
+use Rattle.region_words.specs.Region.{IsFile}
 use Rattle.region_words.specs.Stores.{filled_up, whole_pages}
-use Rattle.region_words.specs.Share.{unlock_place, total}
-use Rattle.region_words.specs.Local.{Local, IsLocal, IsAccount, Keeps, opening, account_of, no_account, kept_in, lock_after}
+use Rattle.region_words.specs.Local.{IsAccount, Keeps, opening, account_of, no_account, kept_in}
 use Rattle.region_words.specs.Opening.{size_over}
 use Rattle.region_words.specs.declared.account.Account.{Account}
 use Rattle.region_words.proofs.Totals.{total_none}

@@ -15,7 +15,7 @@ use Rattle.meta_record.specs.declared.shown.Shown.TheVariants.{Whole}
 use Rattle.change_log.specs.Acts.{replay, applied}
 use Rattle.change_log.specs.declared.change.Change.{Change}
 use Rattle.std.proofs.lemmas.List.Sums.{fold-append}
-use Rattle.region_words.specs.Region.{Region, IsRegion, record_of, flag, payload_of, file_size, map_in, shown, map_shown, size_of, base}
+use Rattle.region_words.specs.Region.{Region, IsRegion, record_of, flag, payload_of, map_in, shown, map_shown, size_of, base}
 use Rattle.region_words.specs.Past.{region_after, changes_of}
 use Rattle.region_words.specs.Apart.{Apart, strings}
 use Rattle.region_words.specs.Lawful.{Lawful, map_after}

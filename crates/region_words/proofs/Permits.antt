@@ -1,19 +1,17 @@
 -- Events that may come at any moment: a death, and a lock that nobody stands against.
-use Rattle.std.proofs.Common.{◌≡◌, ℕ, ◌≤◌, Bool, true, false, List, [], ◌∷◌, refl}
+use Rattle.std.proofs.Common.{◌≡◌, ℕ, ◌≤◌, Bool, true, false, List, ◌∷◌, refl}
 use Rattle.std.specs.Prelude.{None}
 use Rattle.expiring_map.specs.Map.{Map}
 use Rattle.lock_rules.specs.Locks.{MayTake, holds_exclusive}
 use Rattle.lock_rules.specs.declared.table.LockKind.{LockKind}
 use Rattle.region_words.specs.Region.{Region}
 use Rattle.region_words.specs.Past.{region_after, locks_after, has_died}
-use Rattle.region_words.specs.Apart.{Apart}
-use Rattle.region_words.specs.Lawful.{Lawful, Phase, Between, Reaches, Dies, map_after}
+use Rattle.region_words.specs.Lawful.{Lawful, Phase, Between, Dies, map_after}
 use Rattle.region_words.specs.Local.{event_of}
 use Rattle.region_words.specs.declared.event.What.TheVariants.{Lock, Died}
 use Rattle.region_words.specs.declared.event.Event.{Event}
 use Rattle.region_words.proofs.Regions.{lawful_accepted}
 use Rattle.region_words.proofs.ReadLaws.{run_of}
-use Rattle.region_words.proofs.Held.{Apart-front}
 
 some_cut : (b : Bool) (r : Region) (m : Map) (who : ℕ) (old : Phase) → (new : Phase) × Dies b r m who old None new
 some_cut true r m who old = (Between None, (tt, refl))

@@ -1,14 +1,14 @@
 -- What the calls of a seat are for a share: from the region in memory before and after to the words of the trait.
-use Rattle.std.proofs.Common.{◌≡◌, ◌≢◌, ℕ, zero, suc, ◌+◌, ◌-◌, ◌≤◌, ◌<◌, Bool, true, false, eqb, List, [], ◌∷◌, ◌++◌, length, set, refl, sym, subst, ap, ◌∙◌, arith, inl, inr, ◌⊎◌, ◌&&◌, ◌||◌, not}
+use Rattle.std.proofs.Common.{◌≡◌, ◌≢◌, ℕ, ◌+◌, ◌-◌, ◌≤◌, ◌<◌, Bool, true, false, eqb, List, [], ◌∷◌, ◌++◌, length, set, refl, sym, subst, ap, ◌∙◌, arith, inl, inr, ◌⊎◌, ◌&&◌, ◌||◌, not}
 use Rattle.std.proofs.lemmas.Bool.Decides.{eqb_tells, nat_tests}
 use Rattle.std.specs.Prelude.{Option, Some, None, nat_lt, if◌then◌else◌, Contains}
 use Rattle.lock_rules.specs.Locks.{MayTake}
 use Rattle.lock_rules.specs.declared.table.LockKind.{LockKind}
-use Rattle.lock_rules.specs.declared.table.LockKind.TheVariants.{Shared, Exclusive}
+use Rattle.lock_rules.specs.declared.table.LockKind.TheVariants.{Exclusive}
 use Rattle.region_words.specs.Past.{region_after, locks_after, has_died, is_death}
 use Rattle.region_words.specs.Lawful.{Lawful, IsWordOf}
 use Rattle.region_words.specs.Outside.{one_more}
-use Rattle.region_words.specs.Share.{ShareState, IsSound, IsSameShare, Counts, most_events, After, Left, Goes, Fails, total, unlock_place, lock_of, places_for, places_kept, made_by, stored, locked, unlocked_by, died, failed, loaded, refused, reserving, unmoved, MayTearAt, torn_word, IsNotDue, StopsReserving, StopsTrying}
+use Rattle.region_words.specs.Share.{ShareState, IsSound, IsSameShare, Counts, most_events, After, Left, unlock_place, places_for, made_by, stored, locked, unlocked_by, died, failed, loaded, refused, reserving, unmoved, MayTearAt, torn_word, IsNotDue, StopsReserving, StopsTrying}
 use Rattle.region_words.specs.Local.{Local, Seated, IsLocal, IsAccount, HasPlace, seat_state, account_of, account_after, kept_in, lock_after, reserved_in, with_event, event_of, with_account, called, after_load, after_refusal, after_fault, after_reserve, LacksPlaces, stop_of}
 use Rattle.region_words.specs.declared.account.Account.{Account}
 use Rattle.region_words.specs.declared.event.TornWord.{TornWord}
@@ -23,7 +23,7 @@ use Rattle.region_words.specs.declared.event.What.TheVariants.{Store, Grow, Lock
 use Rattle.region_words.specs.declared.event.Event.{Event}
 use Rattle.region_words.proofs.Totals.{total_same}
 use Rattle.region_words.proofs.LockOf.{exclusive_holds, lock_other, lock_without, lock_with}
-use Rattle.region_words.proofs.Accounts.{own_account, other_account, local_account, local_event, held_places, above_none, not_dead, now_dead, free_holds_none, counted, reserved_account}
+use Rattle.region_words.proofs.Accounts.{own_account, other_account, local_account, local_event, held_places, not_dead, now_dead, free_holds_none, counted, reserved_account}
 use Rattle.region_words.proofs.Permits.{may_die}
 use Rattle.region_words.proofs.Regions.{lawful_region}
 

@@ -3,7 +3,6 @@ use Rattle.std.proofs.Common.{◌≡◌, ◌≢◌, ◌⊎◌, ℕ, zero, suc, �
 use Rattle.std.specs.Prelude.{Some, None, Contains, slice_index, filter, map, nat_le}
 use Rattle.std.proofs.lemmas.Bool.Decides.{nat_tests}
 use Rattle.crc_words.specs.Crc.{crc}
-use Rattle.expiring_map.specs.Map.{Map}
 use Rattle.meta_record.specs.Words.{word_at, fits}
 use Rattle.change_log.specs.Acts.{replay, is_append}
 use Rattle.change_log.specs.declared.change.Change.{Change}

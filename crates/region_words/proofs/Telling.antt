@@ -1,11 +1,11 @@
 -- What a share tells, and how a call moves it on.
-use Rattle.std.proofs.Common.{◌≡◌, ◌≢◌, ℕ, Bool, true, List, [], ◌∷◌, ◌++◌, refl, sym, ◌∙◌, subst, ap}
+use Rattle.std.proofs.Common.{◌≡◌, ◌≢◌, ℕ, Bool, List, [], ◌++◌, sym, ◌∙◌, subst, ap}
 use Rattle.std.specs.Prelude.{Option, Some, None}
 use Rattle.region_words.specs.Region.{Region}
 use Rattle.region_words.specs.Past.{region_after, changes_of, locks_after}
 use Rattle.region_words.specs.Lawful.{Lawful}
 use Rattle.region_words.specs.Told.{History, OnTold, OnBoth}
-use Rattle.region_words.specs.Share.{ShareState, Agrees, Grows, made_by, lock_of}
+use Rattle.region_words.specs.Share.{ShareState, Agrees, Grows, made_by}
 use Rattle.region_words.specs.declared.event.What.{What}
 use Rattle.region_words.specs.declared.event.Event.{Event}
 use Rattle.region_words.proofs.Held.{held}

@@ -1,7 +1,6 @@
 -- A region in memory: where it started, what has happened, and what is kept for its openers.
-use Rattle.std.specs.Prelude.{◌≡◌, ◌≢◌, ℕ, ◌+◌, ◌-◌, ◌<◌, ◌≤◌, Bool, true, false, List, [], ◌∷◌, length, replicate, Option, Some, None, not, ◌&&◌, ◌||◌, nat_lt, max, slice_index_or, slice_set, if◌then◌else◌, ⊤}
+use Rattle.std.specs.Prelude.{◌≡◌, ◌≢◌, ℕ, ◌+◌, ◌-◌, ◌<◌, ◌≤◌, Bool, true, false, List, [], ◌∷◌, length, replicate, Option, Some, None, not, ◌&&◌, ◌||◌, nat_lt, max, slice_index_or, slice_set, ⊤}
 use base.Stored.{coded_ℕ}
-use Rattle.kv_pairs.specs.Growth.{largest}
 use Rattle.lock_rules.specs.Locks.{Locks, MayTake, IsLeastAgainst}
 use Rattle.lock_rules.specs.declared.table.Tried.{Tried}
 use Rattle.lock_rules.specs.declared.table.Tried.TheVariants.{Taken, Busy}
@@ -20,7 +19,7 @@ use Rattle.region_words.specs.declared.stops.ShareStop.{ShareStop}
 use Rattle.region_words.specs.declared.stops.ShareStop.TheVariants as share
 use Rattle.region_words.specs.Places.{LacksRoom}
 use Rattle.region_words.specs.declared.event.What.{What}
-use Rattle.region_words.specs.declared.event.What.TheVariants.{Store, Grow, Lock, Unlock, Died}
+use Rattle.region_words.specs.declared.event.What.TheVariants.{Grow, Lock, Unlock, Died}
 use Rattle.region_words.specs.declared.event.Event.{Event}
 
 -- A region in memory. The accounts are those of the openers 1 to 64, at their numbers; `failing` has the calls that are to

@@ -1,5 +1,5 @@
 -- A share that tells nothing of its journal, as a test of the trait.
-use Rattle.std.specs.Prelude.{ℕ, Bool, true, false, Option, Some, None, ◌==◌, if◌then◌else◌}
+use Rattle.std.specs.Prelude.{ℕ, true, false, Option, Some, None, ◌==◌, if◌then◌else◌}
 use base.Stored.{coded_ℕ}
 use Rattle.lock_rules.specs.declared.table.LockKind.{LockKind}
 use Rattle.lock_rules.specs.declared.table.LockKind.TheVariants.{Exclusive}

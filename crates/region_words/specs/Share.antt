@@ -1,8 +1,8 @@
 -- What a share stands for, and what its calls do to it.
-use Rattle.std.specs.Prelude.{◌≡◌, ◌≢◌, ℕ, zero, suc, ◌+◌, ◌-◌, ◌^◌, ◌<◌, ◌≤◌, Bool, true, false, List, [], ◌∷◌, ◌++◌, length, map, Option, Some, None, Contains, min, max, not, ◌||◌, ◌&&◌, if◌then◌else◌, ⊤}
+use Rattle.std.specs.Prelude.{◌≡◌, ◌≢◌, ℕ, zero, suc, ◌+◌, ◌-◌, ◌<◌, ◌≤◌, Bool, true, false, List, [], ◌∷◌, ◌++◌, length, map, Option, Some, None, Contains, max, not, ◌||◌, ◌&&◌, if◌then◌else◌, ⊤}
 use Rattle.std.specs.FinSet as set
 use base.Stored.{Gv}
-use Rattle.lock_rules.specs.Locks.{Locks, holds, holds_exclusive, MayTake, IsLeastAgainst}
+use Rattle.lock_rules.specs.Locks.{Locks, holds_exclusive, MayTake, IsLeastAgainst}
 use Rattle.lock_rules.specs.declared.table.LockKind.{LockKind}
 use Rattle.lock_rules.specs.declared.table.LockKind.TheVariants.{Shared, Exclusive}
 use Rattle.lock_rules.specs.declared.table.Tried.{Tried}

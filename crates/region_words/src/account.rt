@@ -1,5 +1,5 @@
 // What a region in memory keeps for one opener, and counts of it.
-ghost use Rattle.std.specs.Prelude.{◌≡◌, ◌⊎◌, ◌<◌, ◌+◌, ◌^◌};
+ghost use Rattle.std.specs.Prelude.{◌≡◌, ◌<◌, ◌+◌, ◌^◌};
 ghost use Rattle.region_words.specs.Local.{account_after, no_account};
 
 use crate::event::What;

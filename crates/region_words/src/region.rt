@@ -1,6 +1,6 @@
 // A region in memory, with its journal.
-ghost use Rattle.std.specs.Prelude.{All, ◌≡◌, ◌≢◌, ℕ, ◌+◌, ◌<◌, ◌≤◌, ◌↔◌, ◌++◌, [], ◌∷◌, ◌-◌, false, true, None, Some, length, reverse, vec_capacity, vec_len, Contains, IsTrue, IfOk, IfErr, OnOk, ◌==◌, if◌then◌else◌};
-ghost use Rattle.region_words.specs.Region.{file_size};
+ghost use Rattle.std.specs.Prelude.{All, ◌≡◌, ◌≢◌, ◌+◌, ◌<◌, ◌≤◌, ◌↔◌, ◌++◌, [], ◌∷◌, ◌-◌, false, true, None, Some, length, reverse, vec_capacity, vec_len, Contains, IsTrue, IfOk, IfErr, OnOk, ◌==◌, if◌then◌else◌};
+ghost use Rattle.region_words.specs.Region.{IsRegion, file_size};
 ghost use Rattle.region_words.specs.Past.{region_after, changes_of, locks_after, has_died};
 ghost use Rattle.region_words.specs.Lawful.{Lawful, IsWordOf};
 ghost use Rattle.region_words.specs.Share.{word_in, most_events, torn_word, HasTornWord};
@@ -117,6 +117,7 @@ impl LocalRegion {
     pub fn journal(&self) -> &[Event]
         ensures events { reverse result.now ≡ self.now.past }
         ensures lawful { Lawful self.now.start self.now.past }
+        ensures region { IsRegion self.now.start }
     {
         &self.journal
     }

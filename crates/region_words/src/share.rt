@@ -1,11 +1,11 @@
 // A shared region as one opener sees it.
-ghost use Rattle.std.specs.Prelude.{◌≡◌, ◌≢◌, ℕ, ◌%◌, ◌<◌, ◌≤◌, [], length, true, false, Some, None, IfOk, IfErr, OnOk, OnErr};
+ghost use Rattle.std.specs.Prelude.{◌≡◌, ◌≢◌, ◌%◌, ◌<◌, ◌≤◌, length, false, Some, None, IfOk, IfErr, OnOk};
 ghost use Rattle.kv_pairs.specs.Growth.{largest};
 ghost use Rattle.region_words.specs.Region.{file_size, record_of};
-ghost use Rattle.region_words.specs.Past.{region_after, changes_of};
+ghost use Rattle.region_words.specs.Past.{region_after};
 ghost use Rattle.region_words.specs.Told.{OnTold, changes_told};
 ghost use Rattle.region_words.specs.Share.{ShareState, IsSound, HasWord, MayMake, MayTearAt, Goes, Fails, Stops, StopsReserving, StopsTrying, Tries, Dies, HasRoom};
-ghost use Rattle.region_words.specs.Share.{unmoved, loaded, stored, reserving, unlocked_by, word_in};
+ghost use Rattle.region_words.specs.Share.{loaded, stored, reserving, unlocked_by, word_in};
 
 use crate::event::{Mark, Side, What};
 use crate::stops::{Peek, ShareStop, TornStore, Unstored};

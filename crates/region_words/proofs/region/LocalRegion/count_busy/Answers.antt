@@ -1,9 +1,7 @@
-use Rattle.std.proofs.Common.{◌≡◌, ◌≢◌, ℕ, ◌+◌, ◌-◌, ◌<◌, ◌≤◌, List, [], ◌∷◌, ◌++◌, length, reverse, set, refl, sym, subst, ap, ◌∙◌, arith}
-use Rattle.std.proofs.lemmas.List.{reverse-append, length-reverse}
-use Rattle.region_words.specs.Lawful.{Lawful}
-use Rattle.region_words.specs.Local.{Local, TakesPlace, HasRoomToGrow, account_of, account_after, event_of, after_load, after_refusal, after_fault}
+use Rattle.std.proofs.Common.{refl}
+use Rattle.region_words.specs.Local.{account_of, after_refusal}
 use Rattle.region_words.specs.Inside.{local_of}
-use Rattle.region_words.proofs.Keeping.{own_places, changes_few, keeps_event, keeps_account, keeps_count, takes, lies_in, has_bytes}
+use Rattle.region_words.proofs.Keeping.{keeps_count}
 use Rattle.region_words.proofs.region.LocalRegion.count_busy.Goals as goal
 
 pub invariant_of-self : goal.invariant_of-self

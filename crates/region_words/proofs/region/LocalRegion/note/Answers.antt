@@ -1,9 +1,9 @@
-use Rattle.std.proofs.Common.{◌≡◌, ◌≢◌, ℕ, ◌+◌, ◌-◌, ◌<◌, ◌≤◌, List, [], ◌∷◌, ◌++◌, length, reverse, set, refl, sym, subst, ap, ◌∙◌, arith}
+use Rattle.std.proofs.Common.{◌+◌, ◌∷◌, reverse, sym, subst, ap, arith}
 use Rattle.std.proofs.lemmas.List.{reverse-append, length-reverse}
 use Rattle.region_words.specs.Lawful.{Lawful}
-use Rattle.region_words.specs.Local.{Local, TakesPlace, HasRoomToGrow, account_of, account_after, event_of, after_load, after_refusal, after_fault}
+use Rattle.region_words.specs.Local.{Local, TakesPlace, HasRoomToGrow, event_of}
 use Rattle.region_words.specs.Inside.{local_of}
-use Rattle.region_words.proofs.Keeping.{own_places, changes_few, keeps_event, keeps_account, keeps_count, takes, lies_in, has_bytes}
+use Rattle.region_words.proofs.Keeping.{own_places, changes_few, keeps_event, takes, has_bytes}
 use Rattle.region_words.proofs.region.LocalRegion.note.Goals as goal
 
 pub after-after-requires-clause-few : goal.after-after-requires-clause-few

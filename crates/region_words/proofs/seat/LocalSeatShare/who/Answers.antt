@@ -1,17 +1,7 @@
-use Rattle.std.proofs.Common.{◌≡◌, ◌≢◌, ℕ, ◌+◌, ◌≤◌, ◌<◌, true, false, List, [], ◌∷◌, length, refl, sym, subst, ap, ◌∙◌, arith}
-use Rattle.std.specs.Prelude.{Some, None, Contains}
-use Rattle.lock_rules.specs.Locks.{MayTake}
-use Rattle.lock_rules.specs.declared.table.LockKind.TheVariants.{Exclusive}
-use Rattle.region_words.specs.Past.{region_after, locks_after, has_died}
-use Rattle.region_words.specs.Lawful.{Lawful, IsWordOf}
-use Rattle.region_words.specs.Share.{Goes, Fails, IsNotDue, IsSound, Dies, Tries, StopsReserving, StopsTrying, HasRoom, loaded, refused, stored, locked, unlocked_by, died, reserving, unmoved, torn_word, MayTearAt}
-use Rattle.region_words.specs.Local.{Local, Seated, IsLocal, HasPlace, seat_state, seat_called, seat_loaded, seat_refused, seat_reserved, seat_made, account_of, lock_after, reserved_in, kept_in, event_of, called, with_event, with_fault, after_reserve}
-use Rattle.region_words.specs.declared.event.Side.TheVariants.{Meta}
-use Rattle.region_words.specs.declared.event.What.{What}
-use Rattle.region_words.specs.declared.event.What.TheVariants.{Store, Grow, Lock, Unlock, Died}
-use Rattle.region_words.proofs.Permits.{may_die, may_lock}
-use Rattle.region_words.proofs.Regions.{lawful_region}
-use Rattle.region_words.proofs.SeatCalls.{seat_sound, living, death_lawful, has_some, meta_word, after_nothing, after_loading, after_refusing, after_reserving, after_store, after_grow, after_lock, after_unlock, after_death, after_failure}
+use Rattle.std.proofs.Common.{subst}
+use Rattle.region_words.specs.Share.{IsSound}
+use Rattle.region_words.specs.Local.{Seated, seat_state}
+use Rattle.region_words.proofs.SeatCalls.{seat_sound}
 use Rattle.region_words.proofs.seat.LocalSeatShare.who.Goals as goal
 
 pub returns-clause-sound : goal.returns-clause-sound
