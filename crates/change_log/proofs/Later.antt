@@ -14,7 +14,7 @@ use Rattle.change_log.specs.declared.call.Answer.{Answer}
 abbrev pub NoneBy : ℕ → List Change → Type 0
 NoneBy who changes = AllByRecursion (λ c. c.maker ≢ who) changes
 
-front_at : (xs ys : List Change) (i : ℕ) (c : Change) → slice_get xs i ≡ Some c → slice_get (xs ++ ys) i ≡ Some c
+pub front_at : (xs ys : List Change) (i : ℕ) (c : Change) → slice_get xs i ≡ Some c → slice_get (xs ++ ys) i ≡ Some c
 front_at [] ys i c e = absurd cc
 front_at (x ∷ xs) ys zero c e = e
 front_at (x ∷ xs) ys (suc i) c e = front_at xs ys i c e
@@ -29,12 +29,12 @@ own_at who [] ys i c n e m = absurd (nobody who ys i c n e m)
 own_at who (x ∷ xs) ys zero c n e m = e
 own_at who (x ∷ xs) ys (suc i) c n e m = own_at who xs ys i c n e m
 
-take_front : (xs ys : List Change) (k : ℕ) → k ≤ length xs → take k (xs ++ ys) ≡ take k xs
+pub take_front : (xs ys : List Change) (k : ℕ) → k ≤ length xs → take k (xs ++ ys) ≡ take k xs
 take_front xs ys zero h = refl
 take_front [] ys (suc k) h = absurd (omega (arith, h))
 take_front (x ∷ xs) ys (suc k) h = ap (λ z. x ∷ z) (take_front xs ys k (omega (arith, h)))
 
-placed_later : (base : Map) (xs ys : List Change) (a : Answer) → IsPlaced base xs a → IsPlaced base (xs ++ ys) a
+pub placed_later : (base : Map) (xs ys : List Change) (a : Answer) → IsPlaced base xs a → IsPlaced base (xs ++ ys) a
 placed_later base xs ys a p =
     record {
       begun = p.begun;
@@ -43,7 +43,7 @@ placed_later base xs ys a p =
       reply = p.reply ∙ ap (λ front. reply_in (replay base front) a.now a.call) (sym (take_front xs ys a.place (omega (arith, p.ended, p.within))));
     }
 
-made_at : (o : Option Act) (xs ys : List Change) (a : Answer) →
+pub made_at : (o : Option Act) (xs ys : List Change) (a : Answer) →
     IfSome o (λ act. (a.place < a.ended) × (slice_get xs a.place ≡ Some (record { maker = a.who; act = act }))) →
     IfSome o (λ act. (a.place < a.ended) × (slice_get (xs ++ ys) a.place ≡ Some (record { maker = a.who; act = act })))
 made_at None xs ys a h = h

@@ -74,7 +74,7 @@ by_grammar (begun {bytes} {text} {rest} {items} n e s u) more all some small_mor
 pub behind : (p more : List ℕ) (front all : List Item) → 0 < length p → Small p → Small more → items_of p ≡ Some front → items_of (p ++ more) ≡ Some all → IsBehind front more all
 behind p more front all some small small_more e f = by_grammar (items_of_ok p front small e) more all some small_more f
 
-parts : (flag : Bool) (o : Option (List Item)) (m : Map) → option_and_then (map_of flag) o ≡ Some m → (items : List Item) × (o ≡ Some items) × (map_of flag items ≡ Some m)
+pub parts : (flag : Bool) (o : Option (List Item)) (m : Map) → option_and_then (map_of flag) o ≡ Some m → (items : List Item) × (o ≡ Some items) × (map_of flag items ≡ Some m)
 parts flag None m e = absurd cc
 parts flag (Some items) m e = (items, refl, e)
 

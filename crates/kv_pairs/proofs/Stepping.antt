@@ -44,7 +44,7 @@ text_less bytes = go (length_at bytes) (length_less bytes)
     go None l = tt
     go (Some r) l = fits (nat_le r.0 (length r.1)) r l
 
-unit_less : (bytes : List ℕ) → Less (length bytes) (unit_at bytes)
+pub unit_less : (bytes : List ℕ) → Less (length bytes) (unit_at bytes)
 unit_less bytes = go (text_at bytes) (text_less bytes)
   where
     value : (key : List ℕ) (n : ℕ) (o : Option (List ℕ × List ℕ)) → n < length bytes → Less n o →

@@ -1,3 +1,4 @@
 pub mod Command
 pub mod Ending
 pub mod Due
+pub mod Play

@@ -4,7 +4,9 @@
 mod command;
 mod dump;
 mod ending;
+mod mode;
 mod top;
 
 pub use ending::Status;
+pub use mode::Mode;
 pub use top::run;

@@ -59,7 +59,7 @@ number_spelled n h =
     let in_ten = spelled 10 n (omega arith) (omega (arith, h)) in
     record { chain = in_ten.chain; most = in_ten.most; number = in_ten.number; below = h }
 
-fits_wide : (z : ℤ) → FitsSigned w32 z → FitsSigned w64 z
+pub fits_wide : (z : ℤ) → FitsSigned w32 z → FitsSigned w64 z
 fits_wide z h = record { sfits = omega (arith, h.sfits) }
 
 unsigned_below : (z : ℤ) → FitsSigned w64 z → cast_unsigned w64 z < 2 ^ 64
