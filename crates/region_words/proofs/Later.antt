@@ -11,11 +11,12 @@ use Rattle.lock_rules.specs.declared.table.LockKind.{LockKind}
 use Rattle.lock_rules.specs.declared.table.LockKind.TheVariants.{Exclusive}
 use Rattle.region_words.specs.Region.{Region, IsAccepted, base}
 use Rattle.region_words.specs.Past.{region_after, region_step, locks_after, has_died, NoneOf}
-use Rattle.region_words.specs.Lawful.{Lawful, IsPossible, Phase, Between, Reaches, IsStep, Dies, Advances, map_after}
+use Rattle.region_words.specs.Lawful.{Lawful, IsPossible, Phase, Between, Reaches, IsStep, IsTornIn, IsTearer, Dies, Advances, map_after}
 use Rattle.region_words.specs.Images.{IsResting}
 use Rattle.region_words.specs.Coming.{IsStoring}
 use Rattle.region_words.specs.Share.{lock_of}
 use Rattle.region_words.specs.Local.{event_of, lock_after}
+use Rattle.region_words.specs.declared.event.TornWord.{TornWord}
 use Rattle.region_words.specs.declared.event.What.{What}
 use Rattle.region_words.specs.declared.event.What.TheVariants.{Store, Grow, Lock, Unlock, Died}
 use Rattle.region_words.specs.declared.event.Event.{Event}
@@ -121,6 +122,39 @@ store_later start others past who what is l now n mine =
             ),
           ),
     )
+
+-- and so is its death, within a store or not
+pub death_later : (start : Region) (others past : List Event) (who : ℕ) (torn : Option TornWord) → Lawful start (event_of who (Died torn) ∷ past) → Lawful start (others ++ past) →
+    NoneOf who others → lock_after past who ≡ Some Exclusive → Lawful start (event_of who (Died torn) ∷ others ++ past)
+death_later start others past who torn l now n mine =
+    let same = held start others past who now (exclusive_holds (locks_after past) who mine) n in
+    let still : lock_after (others ++ past) who ≡ Some Exclusive = lock_others start others past who now n ∙ mine in
+    let map_is : map_after start (others ++ past) ≡ map_after start past = ap (replay (base start)) same.1 in
+    let here = exclusive_is (locks_after (others ++ past)) who still in
+    let there = exclusive_is (locks_after past) who mine in (
+      now,
+      record {
+        maker = l.1.maker;
+        alive = died_others others past who n ∙ l.1.alive;
+        possible = (tears (locks_after (others ++ past)) torn here, subst (λ r. IsTornIn r torn) (sym same.0) l.1.possible.1);
+        accepted = λ ok. subst (λ r. IsAccepted (region_step r (Died torn))) (sym same.0) (l.1.accepted ok);
+      },
+      λ apart.
+          let run = l.2 (apart_front start others past apart) in (
+            run.0,
+            (
+              run.1.0,
+              reaches_later start others past who run.1.0 now n mine run.1.1,
+              subst (λ b. Dies b (region_after start (others ++ past)) (map_after start (others ++ past)) who run.1.0 torn run.0) (there ∙ sym here)
+                  (subst (λ r. Dies (holds_exclusive (locks_after past) who) r (map_after start (others ++ past)) who run.1.0 torn run.0) (sym same.0)
+                  (subst (λ m. Dies (holds_exclusive (locks_after past) who) (region_after start past) m who run.1.0 torn run.0) (sym map_is) run.1.2)),
+            ),
+          ),
+    )
+  where
+    tears : (locks : Locks) (torn : Option TornWord) → IsTrue (holds_exclusive locks who) → IsTearer locks who torn
+    tears locks None e = tt
+    tears locks (Some t) e = e
 
 -- and so is its unlock
 pub unlock_later : (start : Region) (others past : List Event) (who : ℕ) → Lawful start (event_of who Unlock ∷ past) → Lawful start (others ++ past) → NoneOf who others →

@@ -1,14 +1,17 @@
 -- What a share tells, and how a call moves it on.
-use Rattle.std.proofs.Common.{◌≡◌, ◌≢◌, ℕ, Bool, List, [], ◌++◌, sym, ◌∙◌, subst, ap}
+use Rattle.std.proofs.Common.{◌≡◌, ◌≢◌, ℕ, ◌<◌, arith, Bool, List, [], ◌++◌, sym, ◌∙◌, subst, ap}
 use Rattle.std.specs.Prelude.{Option, Some, None}
 use Rattle.region_words.specs.Region.{Region}
 use Rattle.region_words.specs.Past.{region_after, changes_of, locks_after}
-use Rattle.region_words.specs.Lawful.{Lawful}
+use Rattle.region_words.specs.Lawful.{Lawful, IsWordOf}
 use Rattle.region_words.specs.Told.{History, OnTold, OnBoth}
-use Rattle.region_words.specs.Share.{ShareState, Agrees, Grows, made_by}
+use Rattle.region_words.specs.Share.{ShareState, Agrees, IsSound, HasWord, Grows, made_by}
+use Rattle.region_words.specs.declared.event.Side.{Side}
+use Rattle.region_words.specs.declared.event.Side.TheVariants.{Data, Meta}
 use Rattle.region_words.specs.declared.event.What.{What}
 use Rattle.region_words.specs.declared.event.Event.{Event}
 use Rattle.region_words.proofs.Held.{held}
+use Rattle.region_words.proofs.Regions.{lawful_region}
 use Rattle.region_words.proofs.LockOf.{holds_some}
 
 pub told_map : (t : Option History) (P Q : History → Type 0) → ((h : History) → P h → Q h) → OnTold t P → OnTold t Q
@@ -43,3 +46,11 @@ held_steady s new h k before after g holds =
     let lawful : Lawful h.start (g.others ++ h.past) = grows_from s.who s.alone [] h k g Lawful after.lawful in
     let same = held h.start g.others h.past s.who lawful (holds_some (locks_after h.past) s.who (λ e. holds (sym before.holds ∙ e))) g.by_others in
     (grows_to s.who s.alone [] h k g (λ start past. region_after start past ≡ region_after h.start h.past) same.0, ap changes_of g.past ∙ same.1)
+
+-- the header and the words of the meta file that are read lie in their files
+pub has_first_words : (s : ShareState) → IsSound s → (side : Side) (w : ℕ) → w < 1024 → HasWord side w s
+has_first_words s is side w few = told_map s.told (Agrees s) (λ h. IsWordOf (region_after h.start h.past) side w) (λ h a. go h a side) is.told
+  where
+    go : (h : History) → Agrees s h → (side : Side) → IsWordOf (region_after h.start h.past) side w
+    go h a Data = let file = (lawful_region h.start h.past a.lawful a.region).data_file in omega (arith, few, file.pages, file.not_empty)
+    go h a Meta = let file = (lawful_region h.start h.past a.lawful a.region).meta_file in omega (arith, few, file.pages, file.not_empty)

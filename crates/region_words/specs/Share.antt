@@ -34,10 +34,10 @@ pub record Counts : Type 0 where
   pub busy : ℕ
   pub turns : ℕ
 
--- What a share stands for. `admitted`, `reserved` and `room` speak of any opener, as far as the share knows them:
--- who may make events, the places that are reserved, and the size of the data file for which room is kept.
--- `kept` is the number of all places that were kept at the last call that made an event or reserved. `fails` lists the numbers of the calls that are to fail, where that
--- is settled beforehand. `tag` is whatever else no call changes, as a code.
+-- What a share stands for. `admitted`, `reserved` and `room` speak of any opener, as far as the share knows them: who may
+-- make events, the places that are reserved, and the size of the data file for which room is kept. `kept` is the number of
+-- all places that were kept at the last call that made an event or reserved. `fails` lists the numbers of the calls that
+-- are to fail, where that is settled beforehand. `tag` is whatever else no call changes, as a code.
 pub record ShareState : Type 0 where
   pub who : ℕ
   pub told : Option History

@@ -19,7 +19,7 @@ pub struct Account {
 
 impl Account {
     /// That of an opener that was never admitted.
-    pub const fn none() -> Self
+    pub(crate) const fn none() -> Self
         ensures { result ≡ no_account }
     {
         Account {
@@ -33,7 +33,7 @@ impl Account {
     }
 
     /// What an event of its opener leaves of it.
-    pub fn after(self, what: &What) -> Self
+    pub(crate) fn after(self, what: &What) -> Self
         requires some { 0 < self.kept }
         requires few { self.kept + 1 < 2 ^ 32 }
         ensures { result ≡ account_after what.now self }
