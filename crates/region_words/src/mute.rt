@@ -112,13 +112,12 @@ impl Share for Mute {
 #[cfg(test)]
 mod tests {
     use super::*;
-    use crate::event::Mark;
+    use crate::region::LocalRegion;
 
     // A share is used by its clauses alone, as of another type.
-    fn reserve_and_store<S: Share>(share: &mut S) -> Result<(), ShareStop>
+    fn lock_and_reserve<S: Share>(share: &mut S) -> Result<(), ShareStop>
         requires alive { (S.state share.old).ended ≡ false }
         requires free { (S.state share.old).holds ≡ None }
-        requires untold { (S.state share.old).told ≡ None }
     {
         if share.try_lock(LockKind::Exclusive)? == Tried::Taken {
             share.reserve(1, 0)?;
@@ -130,6 +129,18 @@ mod tests {
     fn a_share_that_tells_nothing_is_used_by_its_clauses(rt: HostRuntime) {
         let mut share = Mute::new();
         assert_eq!(rt; share.size(), Ok(4096));
-        assert_eq!(rt; reserve_and_store(&mut share), Ok(()));
+        assert_eq!(rt; lock_and_reserve(&mut share), Ok(()));
+    }
+
+    #[test]
+    fn a_seat_is_used_by_the_same_clauses(rt: HostRuntime) {
+        let alloc = rt.alloc();
+        let mut region = LocalRegion::new(alloc, Vec::new(alloc), Vec::new(alloc)).expect(
+            &rt,
+            "ample memory",
+        );
+        region.admit(1).expect(&rt, "ample memory");
+        let mut seat = region.seat(1);
+        assert_eq!(rt; lock_and_reserve(&mut seat), Ok(()));
     }
 }
