@@ -355,9 +355,7 @@ fn whole_pages(bytes: Vec<u8>) -> Result<Vec<u8>, RegionStop>
 // For the proof of `new`: what a slice of bytes holds are bytes.
 fn are_bytes(bytes: &[u8])
     ensures { All (λ b. b < 256) bytes.now }
-{
-    let _ = bytes.len();
-}
+{}
 
 // Takes memory for so many bytes in all. No byte changes.
 fn make_bytes(body: &mut Vec<u8>, size: usize) -> Result<(), AdmitStop>
