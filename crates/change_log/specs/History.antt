@@ -101,3 +101,8 @@ WovenFrom all answers place (c ∷ changes) woven =
 -- the answers and changes as one history
 abbrev pub IsWoven : List Change → List Answer → List Entry → Type 0
 IsWoven changes answers woven = WovenFrom changes answers 0 changes woven
+
+-- the answer at i is the first with its place after the last change
+abbrev pub IsFirstBeyond : List Change → List Answer → ℕ → Type 0
+IsFirstBeyond changes answers i =
+    (a : Answer) × (slice_get answers i ≡ Some a) × (length changes < a.place) × All (λ b. b.place ≤ length changes) (take i answers)

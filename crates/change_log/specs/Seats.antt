@@ -1,5 +1,5 @@
 -- The members of a history, each with its seat.
-use Rattle.std.specs.Prelude.{◌≡◌, ℕ, ◌+◌, ◌<◌, ◌≤◌, true, false, List, [], ◌∷◌, Some, length, take, slice_get, All, if◌then◌else◌}
+use Rattle.std.specs.Prelude.{ℕ, ◌+◌, true, false, List, [], ◌∷◌, if◌then◌else◌}
 use Rattle.change_log.specs.History.{makes_change}
 use Rattle.change_log.specs.declared.change.Change.{Change}
 use Rattle.change_log.specs.declared.call.Answer.{Answer}
@@ -27,8 +27,3 @@ read_seats number (a ∷ answers) = if makes_change [] a then read_seats (number
 abbrev pub change_seats : ℕ → List Change → List Seat
 change_seats place [] = []
 change_seats place (c ∷ changes) = change_seat place ∷ change_seats (place + 1) changes
-
--- the answer at i is the first with its place after the last change
-abbrev pub IsFirstBeyond : List Change → List Answer → ℕ → Type 0
-IsFirstBeyond changes answers i =
-    (a : Answer) × (slice_get answers i ≡ Some a) × (length changes < a.place) × All (λ b. b.place ≤ length changes) (take i answers)

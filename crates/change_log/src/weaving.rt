@@ -1,8 +1,8 @@
 // How answers and changes are made one history.
 ghost use Rattle.std.specs.Prelude.{◌≡◌, map, ◌↔◌, ◌^◌, ◌<◌, ◌≤◌, ◌++◌, ℕ, All, Some, Err, IfOk, OnOk, length};
 ghost use Rattle.std.specs.Option.{IfNone};
-ghost use Rattle.change_log.specs.History.{IsWoven};
-ghost use Rattle.change_log.specs.Seats.{IsFirstBeyond, entry_of, read_seats, change_seats};
+ghost use Rattle.change_log.specs.History.{IsWoven, IsFirstBeyond};
+ghost use Rattle.change_log.specs.Seats.{entry_of, read_seats, change_seats};
 ghost use Rattle.change_log.specs.declared.woven.WeaveStop.TheVariants as stop;
 
 use crate::call::Answer;

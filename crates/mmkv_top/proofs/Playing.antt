@@ -9,21 +9,25 @@ use Rattle.std.proofs.Math.Seq.{take-length, take-append_seam}
 use Rattle.std.specs.FinMap as fin
 use Rattle.expiring_map.specs.Map.{Map}
 use Rattle.change_log.specs.Acts.{replay, applied, act_of, is_of_call}
+use Rattle.mmkv_top.specs.Plain.{IsPlain}
 use Rattle.change_log.specs.History.{Legal, IsPlaced, IsMade, IsAnswered, reply_in, makes_change}
 use Rattle.change_log.proofs.Later.{placed_later, made_at}
 use Rattle.change_log.specs.declared.change.Act.{Act}
 use Rattle.change_log.specs.declared.change.Act.TheVariants.{Pack}
 use Rattle.change_log.specs.declared.change.Change.{Change}
 use Rattle.change_log.specs.declared.call.Answer.{Answer}
-
--- every change belongs to an answered call of opener 1, and the map is what they make of the empty one
-pub record IsPlain (m : Map) (changes : List Change) (answers : List Answer) : Type 0 where
-  pub map : m ≡ replay fin.empty changes
-  pub callers : All (λ a. a.who ≡ 1) answers
-  pub in_order : AllPairs (λ a b. a.ended ≤ b.begun) answers
-  pub placed : All (IsPlaced fin.empty changes) answers
-  pub made : All (IsMade fin.empty changes) answers
-  pub answered : (i : ℕ) (c : Change) → slice_get changes i ≡ Some c → IsAnswered changes answers i × (is_of_call c.act ≡ true)
+use Rattle.change_log.specs.declared.call.Call.{Call}
+use Rattle.change_log.specs.declared.call.Call.TheVariants as call
+use Rattle.change_log.specs.declared.call.Reply.{Reply}
+use Rattle.change_log.specs.declared.call.Reply.TheVariants.{Done}
+use Rattle.script_lang.specs.declared.outcome.Outcome.{Outcome}
+use Rattle.script_lang.specs.declared.outcome.Outcome.TheVariants.{Answered, Blocked, Stopped}
+use Rattle.script_lang.specs.declared.outcome.Reason.{Reason}
+use Rattle.mmkv_top.specs.declared.mode.Mode.{Mode}
+use Rattle.mmkv_top.specs.declared.mode.Mode.TheVariants.{Resting}
+use Rattle.mmkv_top.specs.Play.{answers_in}
+use Rattle.mmkv_top.specs.Answers.{answer_to}
+use Rattle.mmkv_top.specs.Player.{FitsMode}
 
 last_at : {A : Type 0} (xs : List A) (x : A) → slice_get (xs ++ x ∷ []) (length xs) ≡ Some x
 last_at [] x = refl
@@ -102,8 +106,8 @@ change_added m changes answers a act p who begun place ended some of_call reply 
         reply = reply ∙ ap (λ (x : Map). reply_in x a.now a.call) (p.map ∙ ap (replay fin.empty) (sym (ap (λ n. take n (changes ++ change_by a.who act ∷ [])) place ∙ take-append_seam changes ((change_by a.who act) ∷ []))));
       });
       made = All-push (IsMade fin.empty (changes ++ change_by a.who act ∷ [])) answers a
-      (λ k d lt. let x = slice_index_or answers k d in made_at (act_of x.call x.now) changes ((change_by a.who act) ∷ []) x (p.made k d lt))
-      (subst (λ o. IfSome o (λ x. (a.place < a.ended) × (slice_get (changes ++ change_by a.who act ∷ []) a.place ≡ Some (change_by a.who x)))) (sym some) (omega arith, ap (slice_get (changes ++ change_by a.who act ∷ [])) place ∙ last_at changes (change_by a.who act)));
+          (λ k d lt. let x = slice_index_or answers k d in made_at (act_of x.call x.now) changes ((change_by a.who act) ∷ []) x (p.made k d lt))
+          (subst (λ o. IfSome o (λ x. (a.place < a.ended) × (slice_get (changes ++ change_by a.who act ∷ []) a.place ≡ Some (change_by a.who x)))) (sym some) (omega arith, ap (slice_get (changes ++ change_by a.who act ∷ [])) place ∙ last_at changes (change_by a.who act)));
       answered = λ i c e. by_place i c (before_last changes (change_by a.who act) i c e);
     }
   where
@@ -113,3 +117,44 @@ change_added m changes answers a act p who begun place ended some of_call reply 
         (front_of (λ x. IsTrue (makes_change (changes ++ change_by a.who act ∷ []) x) × (x.place ≡ i)) answers a (p.answered i c e).0, (p.answered i c e).1)
     by_place i c (inr e) =
         (last_of (λ x. IsTrue (makes_change (changes ++ change_by a.who act ∷ []) x) × (x.place ≡ i)) answers a (ap is_some some, place ∙ sym e.0), ap (λ x. is_of_call x.act) (sym e.1) ∙ of_call)
+
+answers-answered : (os : List Outcome) (a : Answer) → answers_in (os ++ Answered a ∷ []) ≡ answers_in os ++ a ∷ []
+answers-answered [] a = refl
+answers-answered (Answered b ∷ os) a = ap (λ z. b ∷ z) (answers-answered os a)
+answers-answered (Blocked w h ∷ os) a = answers-answered os a
+answers-answered (Stopped w r ∷ os) a = answers-answered os a
+
+answers-stopped : (os : List Outcome) (w : ℕ) (r : Reason) → answers_in (os ++ Stopped w r ∷ []) ≡ answers_in os
+answers-stopped [] w r = refl
+answers-stopped (Answered b ∷ os) w r = ap (λ z. b ∷ z) (answers-stopped os w r)
+answers-stopped (Blocked v h ∷ os) w r = answers-stopped os w r
+answers-stopped (Stopped v q ∷ os) w r = answers-stopped os w r
+
+-- a get is answered
+pub get_played : (m : Map) (changes : List Change) (os new : List Outcome) (now : ℕ) (key : List ℕ) (begun : ℕ) (reply : Reply) →
+    IsPlain m changes (answers_in os) → begun ≡ length changes → reply ≡ reply_in m now (call.Get key) →
+    new ≡ os ++ Answered (answer_to now (call.Get key) begun begun reply) ∷ [] → IsPlain m changes (answers_in new)
+get_played m changes os new now key begun reply p at r e =
+    let a = answer_to now (call.Get key) begun begun reply in
+    subst (IsPlain m changes) (sym (ap answers_in e ∙ answers-answered os a)) (read_added m changes (answers_in os) a p refl at at at refl r)
+
+-- a call that changes the map is answered
+pub change_played : (m after : Map) (changes grown : List Change) (os new : List Outcome) (now : ℕ) (c : Call) (begun : ℕ) (act : Act) →
+    IsPlain m changes (answers_in os) → begun ≡ length changes → act_of c now ≡ Some act → is_of_call act ≡ true → Done ≡ reply_in m now c →
+    after ≡ applied m act → grown ≡ changes ++ change_by 1 act ∷ [] →
+    new ≡ os ++ Answered (answer_to now c begun (begun + 1) Done) ∷ [] → IsPlain after grown (answers_in new)
+change_played m after changes grown os new now c begun act p at some of_call done map_is changes_are e =
+    let a = answer_to now c begun (begun + 1) Done in
+    let added = change_added m changes (answers_in os) a act p refl at at (ap (λ n. n + 1) at) some of_call done in
+    subst (λ x. IsPlain x grown (answers_in new)) (sym map_is)
+    (subst (λ x. IsPlain (applied m act) x (answers_in new)) (sym changes_are)
+    (subst (IsPlain (applied m act) (changes ++ change_by 1 act ∷ [])) (sym (ap answers_in e ∙ answers-answered os a)) added))
+
+-- a call is stopped
+pub stop_played : (m : Map) (changes : List Change) (os new : List Outcome) (w : ℕ) (r : Reason) → IsPlain m changes (answers_in os) →
+    new ≡ os ++ Stopped w r ∷ [] → IsPlain m changes (answers_in new)
+stop_played m changes os new w r p e = subst (IsPlain m changes) (sym (ap answers_in e ∙ answers-stopped os w r)) p
+
+-- nothing runs, however many changes there are
+pub at_rest : (mode : Mode) (n : ℕ) → mode ≡ Resting → FitsMode mode n
+at_rest mode n e = subst (λ x. FitsMode x n) (sym e) tt

@@ -1,10 +1,11 @@
 -- What each command is due to end with.
-use Rattle.std.specs.Prelude.{◌≡◌, ℕ, List, [], ◌∷◌, Result, Ok, Err, Contains, length, nat_lt, if◌then◌else◌, codes, decimal}
+use Rattle.std.specs.Prelude.{◌≡◌, ℕ, List, [], ◌∷◌, ◌⊎◌, Option, Result, Ok, Err, Contains, MatchBool, length, nat_lt, ◌==◌, codes, decimal}
 use Rattle.meta_record.specs.declared.record.RecordFault.{RecordFault}
 use Rattle.meta_record.specs.declared.record.RecordFault.TheVariants.{Version, Flags}
 use Rattle.meta_record.specs.declared.shown.Shown.{Shown}
 use Rattle.meta_record.specs.declared.shown.Shown.TheVariants.{Damaged}
-use Rattle.region_words.specs.Region.{Region, region_of, shown_if_accepted}
+use Rattle.meta_record.specs.Records.{checked}
+use Rattle.region_words.specs.Region.{Region, region_of, record_of, header, shown_if_accepted}
 use Rattle.region_words.specs.Stores.{Told, Untold, Nothing, Files, filled_up}
 use Rattle.region_words.specs.declared.shelf.TheConstants.{LARGEST_DATA, LARGEST_META}
 use Rattle.region_words.specs.declared.shelf.Brought.{Brought}
@@ -12,7 +13,8 @@ use Rattle.region_words.specs.declared.shelf.ShelfStop.{ShelfStop}
 use Rattle.region_words.specs.declared.shelf.ShelfStop.TheVariants.{Failed, Absent, SizeRefused, Memory}
 use Rattle.script_lang.specs.Texts.{line, damage_text, region_text}
 use Rattle.mmkv_top.specs.declared.ending.Ending.{Ending}
-use Rattle.mmkv_top.specs.Ending.{ending}
+use Rattle.mmkv_top.specs.Ending.{ending, region_fault}
+use Rattle.mmkv_top.specs.Play.{PlaysInput}
 
 -- the two files of a store, as far as they count: whole pages
 abbrev pub region_in : List ℕ → List ℕ → Region
@@ -42,22 +44,62 @@ dump_if_accepted r (Err fault) = refused fault
 abbrev pub dump_of : Region → Ending
 dump_of r = dump_if_accepted r (shown_if_accepted r)
 
--- the dump of two files
-abbrev pub dump_files : List ℕ → List ℕ → Ending
-dump_files body meta =
-    if nat_lt LARGEST_DATA (length body) then over_limit (length body)
-    else (if nat_lt LARGEST_META (length meta) then over_limit (length meta) else dump_of (region_in body meta))
+-- the ending of two files: their lengths are looked at first, that of the data before that of the meta file
+abbrev pub OfFiles : (Region → Ending → Type 0) → List ℕ → List ℕ → Ending → Type 0
+OfFiles of_region body meta e =
+    MatchBool (nat_lt LARGEST_DATA (length body)) (e ≡ over_limit (length body))
+    (MatchBool (nat_lt LARGEST_META (length meta)) (e ≡ over_limit (length meta)) (of_region (region_in body meta) e))
 
--- the ending of `dump` by what lies under the ID; where that is untold, its status alone
+-- the ending by what lies under an ID; where that is untold, its status alone
+abbrev pub OfStore : List ℕ → (Region → Ending → Type 0) → Told → Ending → Type 0
+OfStore statuses of_region Untold e = Contains statuses e.status
+OfStore statuses of_region Nothing e = e ≡ no_store
+OfStore statuses of_region (Files body meta) e = OfFiles of_region body meta e
+
+abbrev pub dump_statuses : List ℕ
+dump_statuses = 0 ∷ 6 ∷ 10 ∷ 13 ∷ 14 ∷ []
+
+abbrev pub IsDumpOf : Region → Ending → Type 0
+IsDumpOf r e = e ≡ dump_of r
+
+-- the ending of `dump` by what lies under the ID
 abbrev pub IsDump : Told → Ending → Type 0
-IsDump Untold e = Contains (0 ∷ 6 ∷ 10 ∷ 13 ∷ 14 ∷ []) e.status
-IsDump Nothing e = e ≡ no_store
-IsDump (Files body meta) e = e ≡ dump_files body meta
+IsDump = OfStore dump_statuses IsDumpOf
 
--- the ending that goes with what a shelf brought, or with why it brought nothing
-abbrev pub IsEndingOf : Result Brought ShelfStop → Ending → Type 0
-IsEndingOf (Ok b) e = e ≡ dump_of (region_in b.body b.meta)
-IsEndingOf (Err Failed) e = e ≡ ending 5 (codes "region fault\n")
-IsEndingOf (Err Absent) e = e ≡ no_store
-IsEndingOf (Err (SizeRefused n)) e = e ≡ over_limit n
-IsEndingOf (Err Memory) e = ⊥
+-- the ending that goes with why a shelf brought nothing
+abbrev pub IsUnbrought : ShelfStop → Ending → Type 0
+IsUnbrought Failed e = e ≡ region_fault
+IsUnbrought Absent e = e ≡ no_store
+IsUnbrought (SizeRefused n) e = e ≡ over_limit n
+IsUnbrought Memory e = ⊥
+
+-- the ending that goes with what a shelf brought
+abbrev pub IsEndingOf : (Region → Ending → Type 0) → Result Brought ShelfStop → Ending → Type 0
+IsEndingOf of_region (Ok b) e = of_region (region_in b.body b.meta) e
+IsEndingOf of_region (Err stop) e = IsUnbrought stop e
+
+-- a store that isn't fresh has no player yet
+abbrev pub not_yet : Ending
+not_yet = ending 17 (codes "not yet\n")
+
+abbrev pub read_fault : Ending
+read_fault = ending 3 (codes "read fault\n")
+
+-- the play of a fresh store by the bytes left of the input; or the input had a fault
+abbrev pub IsFreshPlay : Option (List ℕ) → Option (List ℕ) → Type 0 → Ending → Type 0
+IsFreshPlay left now rose e = PlaysInput left now e ⊎ ((e ≡ read_fault) × rose)
+
+abbrev pub PlayIfAccepted : Result (Unit {0}) RecordFault → ℕ → Option (List ℕ) → Option (List ℕ) → Type 0 → Ending → Type 0
+PlayIfAccepted (Err fault) version left now rose e = e ≡ refused fault
+PlayIfAccepted (Ok _) version left now rose e = MatchBool (version == 0) (IsFreshPlay left now rose e) (e ≡ not_yet)
+
+-- the play of a region: an accepted one of version 0 is fresh
+abbrev pub IsPlayOf : Option (List ℕ) → Option (List ℕ) → Type 0 → Region → Ending → Type 0
+IsPlayOf left now rose r e = PlayIfAccepted (checked (record_of r) (header r)) (record_of r).version left now rose e
+
+abbrev pub play_statuses : List ℕ
+play_statuses = 0 ∷ 3 ∷ 9 ∷ 10 ∷ 13 ∷ 14 ∷ 17 ∷ []
+
+-- the ending of `play` by what lies under the ID, and by the bytes left of the input
+abbrev pub IsPlay : Option (List ℕ) → Option (List ℕ) → Type 0 → Told → Ending → Type 0
+IsPlay left now rose = OfStore play_statuses (IsPlayOf left now rose)

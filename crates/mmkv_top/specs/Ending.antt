@@ -7,9 +7,13 @@ use Rattle.mmkv_top.specs.declared.ending.Status.{Status}
 abbrev pub ending : ℕ → List ℕ → Ending
 ending status text = record { status = status; text = text }
 
+-- the shelf had a fault
+abbrev pub region_fault : Ending
+region_fault = ending 5 (codes "region fault\n")
+
 -- This ending is due by what is said of it. Instead, the shelf had a fault, or memory was refused.
 abbrev pub IsDueOr : Type 0 → (Ending → Type 0) → Ending → Type 0
-IsDueOr shelf_rose due e = due e ⊎ ((e ≡ ending 5 (codes "region fault\n")) × shelf_rose) ⊎ (e ≡ ending 8 [])
+IsDueOr shelf_rose due e = due e ⊎ ((e ≡ region_fault) × shelf_rose) ⊎ (e ≡ ending 8 [])
 
 -- The ending's status is answered and its text written, from the first to the last byte. Instead, the sink had a
 -- fault behind a front of the text, and the status is 4.

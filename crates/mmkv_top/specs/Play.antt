@@ -1,5 +1,7 @@
 -- What `play` does with the lines of a script, for one opener over a plain map.
-use Rattle.std.specs.Prelude.{◌≡◌, ◌≢◌, ℕ, ◌+◌, ◌<◌, ◌≤◌, Bool, List, [], ◌∷◌, ◌++◌, Option, Some, None, length, is_some, ◌==◌, if◌then◌else◌}
+use Rattle.std.specs.Prelude.{◌≡◌, ◌≢◌, ℕ, ◌+◌, ◌-◌, ◌<◌, ◌≤◌, ◌⊎◌, Bool, true, false, List, [], ◌∷◌, ◌++◌, Option, Some, None, length, take, map, flat_map, All, nat_eq, is_some, ◌==◌, if◌then◌else◌, codes, decimal}
+use Rattle.std.specs.List.{ends_with}
+use Rattle.bstr.specs.Text.{lines_of}
 use Rattle.std.specs.FinMap as fin
 use Rattle.change_log.specs.Acts.{act_of}
 use Rattle.change_log.specs.History.{Legal}
@@ -14,6 +16,11 @@ use Rattle.script_lang.specs.declared.outcome.Outcome.{Outcome}
 use Rattle.script_lang.specs.declared.outcome.Outcome.TheVariants.{Answered, Stopped}
 use Rattle.script_lang.specs.declared.outcome.Reason.TheVariants.{ExpiryOff}
 use Rattle.script_lang.specs.Lines.{IsLine}
+use Rattle.script_lang.specs.Script.{IsWholeInput, IsCutInput}
+use Rattle.script_lang.specs.Texts.{line, outcome_line, changes_text}
+use Rattle.mmkv_top.specs.declared.limits.TheConstants.{LARGEST_COUNT, LARGEST_LINE}
+use Rattle.mmkv_top.specs.declared.ending.Ending.{Ending}
+use Rattle.mmkv_top.specs.Ending.{ending}
 use Rattle.mmkv_top.specs.declared.mode.Mode.{Mode}
 use Rattle.mmkv_top.specs.declared.mode.Mode.TheVariants.{Unopened, Resting, Running}
 
@@ -97,3 +104,57 @@ pub record IsHistoryOf (texts : List (List ℕ)) (outcomes : List Outcome) (chan
   pub played : Plays at_start texts ended outcomes
   pub counted : ended.changes ≡ length changes
   pub legal : Legal fin.empty changes (answers_in outcomes)
+
+-- a line without its line feed
+abbrev pub without_feed : List ℕ → List ℕ
+without_feed line = if ends_with nat_eq line (10 ∷ []) then take (length line - 1) line else line
+
+-- the texts of a script's lines: what stands before each line feed, and behind the last one if anything does
+abbrev pub texts_of : List ℕ → List (List ℕ)
+texts_of script = map without_feed (lines_of script)
+
+-- the script's lines that end, and what stands behind them
+pub record IsCutInLines (script ended rest : List ℕ) : Type 0 where
+  pub parts : script ≡ ended ++ rest
+  pub at_end : (ended ≡ []) ⊎ ((front : List ℕ) × (ended ≡ front ++ 10 ∷ []))
+  pub behind : All (λ b. b ≢ 10) rest
+
+-- lines, and bytes of one, that a script may have
+abbrev pub IsWithin : List (List ℕ) → Type 0
+IsWithin texts = (length texts ≤ LARGEST_COUNT) × All (λ text. length text ≤ LARGEST_LINE) texts
+
+-- the next line is one too many, is too long, is none of the grammar, or is refused in this state; or there is none, but
+-- the byte that is one too many lies beyond
+abbrev pub IsRefusedNext : Bool → ℕ → State → List (List ℕ) → Type 0
+IsRefusedNext beyond number s [] = beyond ≡ true
+IsRefusedNext beyond number s (text ∷ texts) = (LARGEST_COUNT ≤ number) ⊎ (LARGEST_LINE < length text) ⊎ IsRefusedIn s text
+
+-- the line of this number is the first that is refused
+pub record IsFirstRefused (texts : List (List ℕ)) (beyond : Bool) (number : ℕ) : Type 0 where
+  pub front : List (List ℕ)
+  pub rest : List (List ℕ)
+  pub state : State
+  pub outcomes : List Outcome
+  pub parts : texts ≡ front ++ rest
+  pub within : IsWithin front
+  pub played : Plays at_start front state outcomes
+  pub refused : IsRefusedNext beyond (length front) state rest
+  pub numbered : number ≡ length front + 1
+
+-- all lines are played, and the text is that of a legal history
+pub record IsPlayed (texts : List (List ℕ)) (e : Ending) : Type 0 where
+  pub outcomes : List Outcome
+  pub changes : List Change
+  pub within : IsWithin texts
+  pub history : IsHistoryOf texts outcomes changes
+  pub text : e ≡ ending 0 (flat_map outcome_line outcomes ++ changes_text changes)
+
+-- a line is refused, and named
+abbrev pub IsScriptRefused : List (List ℕ) → Bool → Ending → Type 0
+IsScriptRefused texts beyond e = (number : ℕ) × IsFirstRefused texts beyond number × (e ≡ ending 9 (line (codes "script" ∷ decimal number ∷ [])))
+
+-- the whole input is a script that is played or refused; or the input has a byte too many, and a line is refused, be it that which holds it
+abbrev pub PlaysInput : Option (List ℕ) → Option (List ℕ) → Ending → Type 0
+PlaysInput left now e =
+    ((script : List ℕ) × IsWholeInput left now script × (IsPlayed (texts_of script) e ⊎ IsScriptRefused (texts_of script) false e))
+    ⊎ ((script ended rest : List ℕ) × IsCutInput left script × IsCutInLines script ended rest × IsScriptRefused (texts_of ended) true e)

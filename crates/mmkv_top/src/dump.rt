@@ -1,15 +1,16 @@
 // The command `dump`.
-ghost use Rattle.std.specs.Prelude.{◌≡◌, ◌≤◌, IfOk, length};
+ghost use Rattle.std.specs.Prelude.{◌≡◌, ℕ, ◌≤◌, List, IfOk, length};
 ghost use Rattle.region_words.specs.Outside.{Rose};
 ghost use Rattle.region_words.specs.Region.{region_of, shown};
 ghost use Rattle.region_words.specs.Stores.{IsId};
 ghost use Rattle.script_lang.specs.Texts.{region_text};
 ghost use Rattle.mmkv_top.specs.Ending.{ending, IsDueOr};
-ghost use Rattle.mmkv_top.specs.Due.{IsDump, IsEndingOf, dump_of, region_in};
+ghost use Rattle.mmkv_top.specs.Due.{IsDump, IsDumpOf, IsEndingOf, dump_of, region_in};
 
 use crate::ending::Ending;
+use crate::refusals::{refused, unbrought};
 use expiring_map::{Bytes, Memory};
-use meta_record::{RecordFault, Shown};
+use meta_record::Shown;
 use region_words::{Brought, Shelf, ShelfStop, fill_up, shown};
 use script_lang::{damage_text, shown_region_text};
 use std::alloc::Global;
@@ -17,31 +18,27 @@ use std::alloc::Global;
 /// Writes what a store's region shows. It repairs nothing.
 pub(crate) fn dump<D: Shelf>(alloc: Global, shelf: &mut D, id: &[u8]) -> Ending
     requires { IsId id.now }
-    ensures { IsDueOr (Rose (D.faults shelf.old) (D.faults shelf.new)) (IsDump (D.stores shelf.old id.now)) result }
+    ensures due { IsDueOr (Rose (D.faults shelf.old) (D.faults shelf.new)) (IsDump (D.stores shelf.old id.now)) result }
+    ensures same { (other : List ℕ) → D.stores shelf.new other ≡ D.stores shelf.old other }
+    ensures clean { result.status ≡ 0 → D.faults shelf.new ≡ D.faults shelf.old }
 {
     let brought = shelf.bring(id);
-    match ending_of(alloc, brought) {
+    match dump_brought(alloc, brought) {
         Ok(ending) => ending,
         Err(Memory) => Ending::no_memory(alloc),
     }
 }
 
-fn ending_of(alloc: Global, brought: Result<Brought, ShelfStop>) -> Result<Ending, Memory>
-    ensures { IfOk result (λ e. IsEndingOf brought e) }
+fn dump_brought(alloc: Global, brought: Result<Brought, ShelfStop>) -> Result<Ending, Memory>
+    ensures { IfOk result (λ e. IsEndingOf IsDumpOf brought e) }
 {
     match brought {
-        Ok(brought) => dump_brought(alloc, brought),
-        Err(ShelfStop::Failed) => Ending::of_text(alloc, 5, "region fault\n"),
-        Err(ShelfStop::Absent) => Ending::of_text(alloc, 13, "no store\n"),
-        Err(ShelfStop::SizeRefused(size)) => Ok(Ending::of_string(
-            14,
-            format!(in alloc; "size {size}\n")?,
-        )),
-        Err(ShelfStop::Memory) => Err(Memory),
+        Ok(brought) => dump_files(alloc, brought),
+        Err(stop) => unbrought(alloc, stop),
     }
 }
 
-fn dump_brought(alloc: Global, brought: Brought) -> Result<Ending, Memory>
+fn dump_files(alloc: Global, brought: Brought) -> Result<Ending, Memory>
     ensures { IfOk result (λ e. e ≡ dump_of (region_in brought.body brought.meta)) }
 {
     let body = fill_up(brought.body.into_vec())?;
@@ -60,14 +57,7 @@ fn dump_region(alloc: Global, body: &[u8], meta: &[u8]) -> Result<Ending, Memory
             format!(in alloc; "{}\n", damage_text(damage))?,
         )),
         Ok(shown) => whole_text(alloc, body, meta, shown),
-        Err(RecordFault::Version(version)) => Ok(Ending::of_string(
-            10,
-            format!(in alloc; "version {version}\n")?,
-        )),
-        Err(RecordFault::Flags(flags)) => Ok(Ending::of_string(
-            10,
-            format!(in alloc; "flags {flags}\n")?,
-        )),
+        Err(fault) => refused(alloc, fault),
     }
 }
 

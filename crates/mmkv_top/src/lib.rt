@@ -4,9 +4,14 @@
 mod command;
 mod dump;
 mod ending;
+mod limits;
 mod mode;
+mod player;
+mod refusals;
 mod top;
 
 pub use ending::Status;
+pub use limits::{LARGEST_COUNT, LARGEST_LINE};
 pub use mode::Mode;
+pub use player::Player;
 pub use top::run;

@@ -1,3 +1,11 @@
 pub mod Remaining
 pub mod Writing
 pub mod Reading
+pub mod Numerals
+pub mod Spelled
+pub mod Cutting
+pub mod Letters
+pub mod Calling
+pub mod Naming
+pub mod Meaning
+pub mod OneMeaning

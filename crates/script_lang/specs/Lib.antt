@@ -2,3 +2,4 @@ pub mod Texts
 pub mod Written
 pub mod Script
 pub mod Lines
+pub mod Splitting

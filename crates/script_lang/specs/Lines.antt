@@ -105,3 +105,7 @@ IsLineOf words (Next who now c) = IsCallLine (codes "call") words who now c
 abbrev pub IsLine : List ℕ → Option Line → Type 0
 IsLine text None = (text ≡ []) ⊎ ((rest : List ℕ) × (text ≡ 35 ∷ rest))
 IsLine text (Some l) = (words : List (List ℕ)) × (text ≡ spaced words) × IsLineOf words l
+
+-- a line names one thing
+abbrev pub NamesOneThing : Type 0
+NamesOneThing = (text : List ℕ) (l m : Option Line) → IsLine text l → IsLine text m → l ≡ m

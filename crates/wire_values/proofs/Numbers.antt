@@ -4,7 +4,7 @@ use Rattle.std.specs.Prelude.{Option, Some, nat_lt, unwrap_or, slice_index, ◌=
 use Rattle.std.specs.Int.{cast_unsigned, cast_signed, w32, w64}
 use Rattle.std.proofs.lemmas.Bool.Decides.{nat_tests}
 use Rattle.std.proofs.lemmas.Int.{to_z-of_z}
-use Rattle.kv_pairs.specs.Lengths.{IsVarint, varint_value, Spells, shortest, shortest_in}
+use Rattle.kv_pairs.specs.Lengths.{IsVarint, varint_value, shortest, shortest_in}
 use Rattle.kv_pairs.specs.Reading.{length_at}
 use Rattle.kv_pairs.proofs.Appending.{shortest_spells}
 use Rattle.kv_pairs.proofs.ReadsGrammar.{length_read}

@@ -3,10 +3,9 @@ use Rattle.std.proofs.Common.{◌≡◌, ◌≢◌, ℕ, List, [], ◌∷◌, le
 use Rattle.std.specs.Prelude.{Option, Some, unwrap_or, Result, Ok, Err, MatchResult, IsErrOf, IsOkAnd}
 use Rattle.kv_pairs.specs.Reading.{length_at}
 use Rattle.kv_pairs.proofs.ReadsGrammar.{length_read}
-use Rattle.wire_values.specs.Values.{kind_of, SpellsValue, SpellsSome, SpellsNone, IsText}
+use Rattle.wire_values.specs.Values.{SpellsSome, SpellsNone, IsText}
 use Rattle.wire_values.specs.declared.value.Kind.{Kind}
 use Rattle.wire_values.specs.declared.value.Kind.TheVariants as kind
-use Rattle.wire_values.specs.declared.value.Value.{Value}
 use Rattle.wire_values.specs.declared.value.Value.TheVariants as value
 
 -- an error goes through a map

@@ -1,13 +1,13 @@
 -- A word, and the one value of a kind that it spells.
-use Rattle.std.proofs.Common.{◌≡◌, ◌≢◌, ℕ, zero, suc, ◌+◌, ◌-◌, ◌^◌, ◌<◌, ◌≤◌, Bool, true, false, cond, List, [], ◌∷◌, length, drop, refl, sym, ap, ◌∙◌, arith, ℤ, pos, negsuc}
-use Rattle.std.specs.Prelude.{Option, Some, Result, Ok, unwrap_or, slice_index, ◌==◌, if◌then◌else◌, FitsSigned, decimal, codes}
+use Rattle.std.proofs.Common.{◌≡◌, ◌≢◌, ℕ, zero, suc, ◌-◌, ◌^◌, ◌<◌, true, false, cond, List, [], drop, refl, sym, ap, ◌∙◌, arith, ℤ, pos, negsuc}
+use Rattle.std.specs.Prelude.{unwrap_or, slice_index, ◌==◌, if◌then◌else◌, FitsSigned, decimal}
 use Rattle.std.specs.Fmt.{signed_decimal}
 use Rattle.std.specs.Result.{result_ok}
-use Rattle.std.specs.Int.{w32, w64}
+use Rattle.std.specs.Int.{w64}
 use Rattle.std.specs.Str.Parse.{digits_value}
 use Rattle.std.proofs.lemmas.Bool.Decides.{nat_tests}
 use Rattle.std.proofs.lemmas.Fmt.{decimal_is_IsNumeral, first_decimal, decimal_digit}
-use Rattle.hex.specs.Hex.{decode_of, encode_lower}
+use Rattle.hex.specs.Hex.{decode_of}
 use Rattle.hex.proofs.HexLemmas.{decode_of-encode_lower}
 use Rattle.wire_values.specs.Values.{kind_of}
 use Rattle.wire_values.specs.Words.{SpellsWord, word_of}
@@ -48,7 +48,6 @@ signed_is word (negsuc n) fits e =
     let test : (slice_index word 0 == 45) ≡ true = grind (arith, nat_tests, ap (λ w. slice_index w 0) e) in
     let number : digits_value 10 (drop 1 word) - 1 ≡ n = omega (arith, ap (λ w. digits_value 10 (drop 1 w)) e, (decimal_is_IsNumeral (suc n) small).1) in
     sym (ap (λ b. cond b (negsuc (digits_value 10 (drop 1 word) - 1)) (pos (digits_value 10 word))) test ∙ ap negsuc number)
-
 
 -- the one value of a kind that the word may spell
 abbrev reading : Kind → List ℕ → Value

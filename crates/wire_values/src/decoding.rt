@@ -42,7 +42,9 @@ pub fn decode(alloc: Global, kind: Kind, bytes: &[u8]) -> Result<Value, ValueSto
         Kind::I32 => i32_in(bytes).map(Value::I32).ok_or(ValueStop::WrongShape),
         Kind::U32 => u32_in(bytes).map(Value::U32).ok_or(ValueStop::WrongShape),
         Kind::I64 => i64_in(bytes).map(Value::I64).ok_or(ValueStop::WrongShape),
-        Kind::U64 => read_number(bytes).map(Value::U64).ok_or(ValueStop::WrongShape),
+        Kind::U64 => read_number(bytes)
+            .map(Value::U64)
+            .ok_or(ValueStop::WrongShape),
         Kind::Text => text_of(alloc, bytes).map(Value::Text),
         Kind::Blob => text_of(alloc, bytes).map(Value::Blob),
         Kind::Raw => raw_of(alloc, bytes).map(Value::Raw),

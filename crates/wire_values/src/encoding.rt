@@ -37,3 +37,31 @@ fn spell_text(alloc: Global, text: &[u8]) -> Result<Bytes, Memory>
     out.extend_from_slice(text)?;
     Ok(Bytes::of_vec(out))
 }
+
+#[cfg(test)]
+mod tests {
+    use super::*;
+    use std::test::Fail;
+
+    #[test]
+    fn each_kind_has_its_shortest_spelling(rt: HostRuntime) -> Result<(), Fail> {
+        let alloc = rt.alloc();
+        let minus_one = b"\xff\xff\xff\xff\xff\xff\xff\xff\xff\x01";
+        let rows: [(Value, &[u8]); 10] = [
+            (Value::Bool(true), b"\x01"),
+            (Value::Bool(false), b"\x00"),
+            (Value::I32(-1), minus_one),
+            (Value::I64(-1), minus_one),
+            (Value::U64(u64::MAX), minus_one),
+            (Value::U32(300), b"\xac\x02"),
+            (Value::Text(Bytes::copy_of(alloc, b"abc")?), b"\x03abc"),
+            (Value::Blob(Bytes::copy_of(alloc, b"")?), b"\x00"),
+            (Value::Raw(Bytes::copy_of(alloc, b"abc")?), b"abc"),
+            (Value::Raw(Bytes::copy_of(alloc, b"")?), b""),
+        ];
+        for (value, want) in &rows {
+            assert_eq!(rt; encode(alloc, value)?.as_slice(), *want);
+        }
+        Ok(())
+    }
+}

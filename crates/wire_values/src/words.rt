@@ -166,3 +166,141 @@ fn append_hex(bytes: &[u8], out: &mut Vec<u8>) -> Result<(), Memory>
     out.resize(end, 0)?;
     hex::encode_to_slice(bytes, &mut out[start..]).map_err(|_| Memory)
 }
+
+#[cfg(test)]
+mod tests {
+    use super::*;
+    use crate::decoding::decode;
+    use std::test::Fail;
+
+    // The word of what was read, or `none` where the shape is wrong.
+    fn shown(alloc: Global, read: Result<Value, ValueStop>) -> Result<Vec<u8>, Fail> {
+        let mut out = Vec::new(alloc);
+        match read {
+            Ok(value) => value_text(&value, &mut out)?,
+            Err(ValueStop::WrongShape) => append(b"none", &mut out)?,
+            Err(stop) => return Err(stop.into()),
+        }
+        Ok(out)
+    }
+
+    #[test]
+    fn a_number_is_read_within_its_kind_alone(rt: HostRuntime) -> Result<(), Fail> {
+        let rows: [(Kind, &[u8], &[u8]); 16] = [
+            (
+                Kind::I32,
+                b"\xff\xff\xff\xff\xff\xff\xff\xff\xff\x01",
+                b"-1",
+            ),
+            (
+                Kind::I64,
+                b"\xff\xff\xff\xff\xff\xff\xff\xff\xff\x01",
+                b"-1",
+            ),
+            (
+                Kind::U64,
+                b"\xff\xff\xff\xff\xff\xff\xff\xff\xff\x01",
+                b"18446744073709551615",
+            ),
+            (
+                Kind::U64,
+                b"\xff\xff\xff\xff\xff\xff\xff\xff\xff\x02",
+                b"none",
+            ),
+            (Kind::I32, b"\xff\xff\xff\xff\x07", b"2147483647"),
+            (Kind::I32, b"\x80\x80\x80\x80\x08", b"none"),
+            (Kind::I32, b"\xff\xff\xff\xff\x0f", b"none"),
+            (
+                Kind::I32,
+                b"\x80\x80\x80\x80\xf8\xff\xff\xff\xff\x01",
+                b"-2147483648",
+            ),
+            (
+                Kind::I32,
+                b"\xff\xff\xff\xff\xf7\xff\xff\xff\xff\x01",
+                b"none",
+            ),
+            (Kind::U32, b"\xff\xff\xff\xff\x0f", b"4294967295"),
+            (Kind::U32, b"\x80\x80\x80\x80\x10", b"none"),
+            (
+                Kind::I64,
+                b"\x80\x80\x80\x80\x80\x80\x80\x80\x80\x01",
+                b"-9223372036854775808",
+            ),
+            (Kind::U32, b"\x81\x80\x00", b"1"),
+            (Kind::U32, b"\x01\x00", b"none"),
+            (Kind::U32, b"\x81", b"none"),
+            (Kind::U32, b"", b"none"),
+        ];
+        for (kind, bytes, want) in rows {
+            assert_eq!(rt;
+                shown(rt.alloc(), decode(rt.alloc(), kind, bytes))?.as_slice(),
+                want
+            );
+        }
+        Ok(())
+    }
+
+    #[test]
+    fn flags_and_texts_are_read_whole(rt: HostRuntime) -> Result<(), Fail> {
+        let rows: [(Kind, &[u8], &[u8]); 13] = [
+            (Kind::Bool, b"\x00", b"false"),
+            (Kind::Bool, b"\x01", b"true"),
+            (Kind::Bool, b"\x02", b"none"),
+            (Kind::Bool, b"\x01\x00", b"none"),
+            (
+                Kind::Bool,
+                b"\xff\xff\xff\xff\xff\xff\xff\xff\xff\x01",
+                b"none",
+            ),
+            (Kind::Text, b"\x00", b""),
+            (Kind::Text, b"\x03abc", b"abc"),
+            (Kind::Text, b"\x83\x00abc", b"abc"),
+            (Kind::Text, b"abc", b"none"),
+            (Kind::Text, b"\x03abcd", b"none"),
+            (Kind::Blob, b"\x02\x0a\xff", b"0aff"),
+            (Kind::Raw, b"\x02\x0a\xff", b"020aff"),
+            (Kind::Raw, b"", b"none"),
+        ];
+        for (kind, bytes, want) in rows {
+            assert_eq!(rt;
+                shown(rt.alloc(), decode(rt.alloc(), kind, bytes))?.as_slice(),
+                want
+            );
+        }
+        Ok(())
+    }
+
+    #[test]
+    fn a_word_has_no_needless_sign_or_zero(rt: HostRuntime) -> Result<(), Fail> {
+        let rows: [(Kind, &[u8], &[u8]); 20] = [
+            (Kind::Bool, b"true", b"true"),
+            (Kind::Bool, b"True", b"none"),
+            (Kind::I32, b"-2147483648", b"-2147483648"),
+            (Kind::I32, b"-2147483649", b"none"),
+            (Kind::I32, b"-0", b"none"),
+            (Kind::I32, b"+1", b"none"),
+            (Kind::I32, b"0", b"0"),
+            (Kind::U32, b"4294967295", b"4294967295"),
+            (Kind::U32, b"4294967296", b"none"),
+            (Kind::U32, b"01", b"none"),
+            (Kind::U32, b"-1", b"none"),
+            (Kind::U32, b"", b"none"),
+            (Kind::I64, b"9223372036854775808", b"none"),
+            (Kind::U64, b"18446744073709551615", b"18446744073709551615"),
+            (Kind::U64, b"18446744073709551616", b"none"),
+            (Kind::Text, b"-1 \xff", b"-1 \xff"),
+            (Kind::Blob, b"0aFf", b"0aff"),
+            (Kind::Blob, b"0a0", b"none"),
+            (Kind::Raw, b"", b""),
+            (Kind::Raw, b"0g", b"none"),
+        ];
+        for (kind, word, want) in rows {
+            assert_eq!(rt;
+                shown(rt.alloc(), read_word(rt.alloc(), kind, word))?.as_slice(),
+                want
+            );
+        }
+        Ok(())
+    }
+}

@@ -1,7 +1,10 @@
-use Rattle.mmkv_top.proofs.Dumped.{due}
+use Rattle.std.proofs.Common.{arith, refl}
+use Rattle.mmkv_top.specs.Due.{IsDumpOf, dump_statuses}
+use Rattle.mmkv_top.proofs.Dumped.{due, dump_of_status}
 use Rattle.mmkv_top.proofs.dump.dump.Goals as goal
 
-pub returns-in-Ok : goal.returns-in-Ok
-returns-in-Ok g c =
-    due (g.D.Shelf.stores c.args.shelf.now c.args.id.now) c.bring-brought.result c.in-Ok.ending _
+pub returns-in-Ok-clause-due : goal.returns-in-Ok-clause-due
+returns-in-Ok-clause-due g c =
+    due dump_statuses IsDumpOf (g.D.Shelf.stores c.args.shelf.now c.args.id.now) c.bring-brought.result c.in-Ok.ending _
+    (λ x d. dump_of_status x c.in-Ok.ending d) (3, omega arith, refl) (4, omega arith, refl)
     c.bring-brought.ensures.told c.bring-brought.ensures.failed c.in-Ok.ensures

@@ -1,4 +1,4 @@
-use Rattle.std.proofs.Common.{◌≡◌, ◌+◌, ◌-◌, ℕ, List, length, take, drop, ap, sym, ◌∙◌, arith, length-drop, length-take}
+use Rattle.std.proofs.Common.{◌≡◌, ◌-◌, length, take, drop, ap, sym, ◌∙◌, arith, length-drop, length-take}
 use Rattle.std.specs.Prelude.{Some, None}
 use Rattle.kv_pairs.specs.Reading.{length_at}
 use Rattle.kv_pairs.proofs.ReadsGrammar.{length_read}
@@ -14,5 +14,5 @@ returns-in_default-clause-none c = λ text is.
 pub returns-else-text-size-clause-none : goal.returns-else-text-size-clause-none
 returns-else-text-size-clause-none c =
     let whole : length (drop c.in-Ok.after c.args.bytes.now) ≡ length (take (length c.args.bytes.now - c.in-Ok.after) (drop c.in-Ok.after c.args.bytes.now)) =
-      omega (arith, length-take (length c.args.bytes.now - c.in-Ok.after) (drop c.in-Ok.after c.args.bytes.now), length-drop c.in-Ok.after c.args.bytes.now) in
+    omega (arith, length-take (length c.args.bytes.now - c.in-Ok.after) (drop c.in-Ok.after c.args.bytes.now), length-drop c.in-Ok.after c.args.bytes.now) in
     another_size c.args.bytes.now (drop c.in-Ok.after c.args.bytes.now) c.in-Ok.size c.in-Ok.ensures.ok (λ e. c.if-text-size.false (sym whole ∙ e))

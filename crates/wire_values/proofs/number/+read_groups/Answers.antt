@@ -1,4 +1,4 @@
-use Rattle.std.proofs.Common.{◌≡◌, ◌-◌, ◌*◌, ◌^◌, ◌<◌, ◌≤◌, arith}
+use Rattle.std.proofs.Common.{◌-◌, ◌^◌, ◌≤◌, arith}
 use Rattle.kv_pairs.proofs.Spans.{one_more, some_span}
 use Rattle.wire_values.proofs.Groups.{in_nine}
 use Rattle.wire_values.proofs.number.+read_groups.Goals as goal

@@ -1,6 +1,6 @@
-use Rattle.std.proofs.Common.{sym, ap, ◌++◌, ◌∙◌, ◌≤◌, arith, length-set, refl}
+use Rattle.std.proofs.Common.{◌∙◌, arith, length-set, refl}
 use Rattle.wire_values.specs.Spelling.{number_spelling}
-use Rattle.wire_values.proofs.Groups.{groups_left, next_group, end_group}
+use Rattle.wire_values.proofs.Groups.{groups_left, next_group}
 use Rattle.wire_values.proofs.number.spell_number.Goals as goal
 
 pub loop-left-init : goal.loop-left-init

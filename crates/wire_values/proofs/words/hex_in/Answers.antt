@@ -1,4 +1,4 @@
-use Rattle.std.proofs.Common.{◌≡◌, ◌%◌, false, refl, arith}
+use Rattle.std.proofs.Common.{false, refl, arith}
 use Rattle.std.specs.Prelude.{IsTrue}
 use Rattle.hex.proofs.HexLemmas.{decode_of-ok, decode_of-digits}
 use Rattle.wire_values.proofs.words.hex_in.Goals as goal

@@ -1,5 +1,5 @@
-use Rattle.std.proofs.Common.{◌≡◌, ◌^◌, ◌<◌, ◌∙◌, ap, sym, subst, arith}
-use Rattle.std.specs.Prelude.{Ok, IsTrue, false}
+use Rattle.std.proofs.Common.{◌≡◌, ◌∙◌, ap, sym, subst}
+use Rattle.std.specs.Prelude.{IsTrue, false}
 use Rattle.std.specs.Int.{cast_signed, cast_unsigned, w64}
 use Rattle.std.proofs.lemmas.Int.{to_z-of_z}
 use Rattle.std.specs.Fmt.{signed_decimal}
