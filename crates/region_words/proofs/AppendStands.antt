@@ -15,9 +15,10 @@ use Rattle.region_words.specs.declared.event.Side.TheVariants.{Meta}
 use Rattle.region_words.specs.declared.event.Mark.TheVariants.{Commit}
 use Rattle.region_words.specs.declared.event.What.{What}
 use Rattle.region_words.specs.declared.event.What.TheVariants.{Store}
-use Rattle.region_words.proofs.Stored.{Small}
+use Rattle.region_words.proofs.WordStores.{Small}
 use Rattle.region_words.proofs.WordsRead.{IsWordIn, Holds, set_word, torn_word, payload_is, same_payload}
-use Rattle.region_words.proofs.Stands.{Image, Stands, Fine, IsAt, data_stands, header_among}
+use Rattle.region_words.proofs.Stands.{Stands, Fine, IsAt, data_stands, header_among}
+use Rattle.region_words.specs.Images.{Image}
 
 -- the words of bytes
 first_of_four : (a b c d : ℕ) (rest : List ℕ) → a < 256 → b < 256 → c < 256 → d < 256 → (q : ℕ) → q < 4 →

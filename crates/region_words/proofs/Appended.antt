@@ -18,7 +18,7 @@ use Rattle.region_words.specs.declared.event.Side.TheVariants.{Meta}
 use Rattle.region_words.specs.declared.event.Mark.{Mark}
 use Rattle.region_words.specs.declared.event.What.{What}
 use Rattle.region_words.specs.declared.event.What.TheVariants.{Store}
-use Rattle.region_words.proofs.Stored.{stored, Small, tail_stored, length-stored, length-words_of}
+use Rattle.region_words.proofs.WordStores.{stored, Small, tail_stored, length-stored, length-words_of}
 use Rattle.region_words.proofs.Shows.{shows_whole}
 
 at_most_true : (b n : ℕ) → b ≤ n → nat_le b n ≡ true

@@ -23,7 +23,7 @@ use Rattle.region_words.specs.declared.event.Mark.{Mark}
 use Rattle.region_words.specs.declared.event.Mark.TheVariants.{Commit}
 use Rattle.region_words.specs.declared.event.What.{What}
 use Rattle.region_words.specs.declared.event.What.TheVariants.{Store}
-use Rattle.region_words.proofs.Stored.{Small, Small-take, Small-drop}
+use Rattle.region_words.proofs.WordStores.{Small, Small-take, Small-drop}
 use Rattle.region_words.proofs.Regions.{Small-from_All}
 use Rattle.region_words.proofs.Shows.{whole_shown, size_is_shown}
 use Rattle.region_words.proofs.WordsRead.{length-payload}

@@ -3,11 +3,9 @@ use Rattle.std.proofs.Common.{◌≡◌, ℕ, ◌+◌, ◌/◌, ◌≤◌, Bool,
 use Rattle.std.specs.Prelude.{Some, None, Option}
 use Rattle.std.specs.List.{AllByRecursion}
 use Rattle.std.proofs.lemmas.List.Elements.{Contains-append_left, Contains-append_right}
-use Rattle.expiring_map.specs.Map.{Map}
 use Rattle.lock_rules.specs.Locks.{Locks, holds_exclusive}
-use Rattle.meta_record.specs.declared.shown.Shown.TheVariants.{Whole}
 use Rattle.change_log.specs.declared.change.Change.{Change}
-use Rattle.region_words.specs.Region.{Region, IsRegion, record_of, shown, map_shown}
+use Rattle.region_words.specs.Region.{Region, IsRegion}
 use Rattle.region_words.specs.Past.{region_after, region_step, changes_of, change_of, locks_after, with_data_word}
 use Rattle.region_words.specs.Apart.{Apart, strings, recorded_payloads, meant_by}
 use Rattle.region_words.specs.Rows.{Row}
@@ -25,29 +23,14 @@ use Rattle.region_words.proofs.Rest.{at_rest}
 use Rattle.region_words.proofs.Sequence.{NoneRaises}
 use Rattle.meta_record.specs.Words.{word_at}
 use Rattle.region_words.proofs.Bytes.{torn_mix}
-use Rattle.region_words.proofs.Stands.{Image, kept_bytes, Stands, Fine, Step, Inside, Mild, stands_more, fine_more, stands_first, size_among, fits_means}
+use Rattle.region_words.proofs.Stands.{Stands, Fine, Step, Inside, Mild, stands_more, fine_more, stands_first, size_among, fits_means}
 use Rattle.region_words.proofs.Stands as stands
 use Rattle.region_words.proofs.RowsBegin.{begins_fine}
-
-abbrev pub image_of : Region → List Event → ℕ → Map → Image
-image_of start past n m = record { region = region_after start past; size = n; pairs = m }
-
--- no row is under way, in any run
-abbrev pub IsResting : Region → List Event → Type 0
-IsResting start past = (p : Phase) → Reaches start past p → (room : Option ℕ) × (p ≡ Between room)
+use Rattle.region_words.specs.Images.{Image, IsResting}
 
 -- so it is where nobody holds exclusive
 pub free_resting : (start : Region) (past : List Event) → Lawful start past → (locks_after past).exclusive ≡ None → IsResting start past
 free_resting start past l free = λ p lead. (None, at_rest start past p l lead free)
-
--- At this moment no row is under way, and the region shows a whole image of this size with this map.
-pub record IsKept (start : Region) (past : List Event) (n : ℕ) (m : Map) : Type 0 where
-  pub rests : IsResting start past
-  pub shows : shown (region_after start past) ≡ Whole n
-  pub maps : map_shown (region_after start past) ≡ Some m
-
-abbrev pub sequence_at : Region → List Event → ℕ
-sequence_at start past = (record_of (region_after start past)).sequence
 
 -- none of these events stored the sequence, and each is of an append, a repair of the size, a growth, a lock or a death
 abbrev pub OnlyMild : ℕ → List Event → Type 0

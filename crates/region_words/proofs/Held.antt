@@ -1,7 +1,6 @@
 use Rattle.std.proofs.Common.{◌≡◌, ◌≢◌, ℕ, Bool, true, false, List, [], ◌∷◌, ◌++◌, refl, ap, ◌∙◌, inl, inr, append-nil, ◌⊎◌, arith, ◌&&◌, ◌||◌}
 use Rattle.std.specs.Prelude.{Option, Some, None, IsTrue, ◌==◌, if◌then◌else◌}
 use Rattle.std.specs.Option.{option_map_or}
-use Rattle.std.specs.List.{AllByRecursion}
 use Rattle.std.specs.Ordering.{nat_cmp}
 use Rattle.std.specs.Cmp.{nat_cmp_total}
 use Rattle.std.specs.FinSet as set
@@ -16,6 +15,7 @@ use Rattle.region_words.specs.Lawful.{Lawful, IsPossible}
 use Rattle.region_words.specs.declared.event.What.{What}
 use Rattle.region_words.specs.declared.event.What.TheVariants.{Store, Grow, Lock, Unlock, Died}
 use Rattle.region_words.specs.declared.event.Event.{Event}
+use Rattle.region_words.specs.Past.{NoneOf}
 
 -- payloads that are told apart after an event were so before it
 pub Apart-front : (start : Region) (e : Event) (past : List Event) → Apart start (e ∷ past) → Apart start past
@@ -83,7 +83,7 @@ kept_without locks other who n h =
     ]
 
 -- another can't store while this one holds
-no_other : (locks : Locks) (other who : ℕ) → other ≢ who → IsSound locks → holds locks who ≡ true → IsTrue (holds_exclusive locks other) → ⊥
+pub no_other : (locks : Locks) (other who : ℕ) → other ≢ who → IsSound locks → holds locks who ≡ true → IsTrue (holds_exclusive locks other) → ⊥
 unfolding IsSound
 no_other locks other who n s h e =
     elim (two_ways locks.exclusive (set.contains locks.shared who) who h) [
@@ -123,10 +123,6 @@ kept_region r locks other who (Lock kind) n p s h = (refl, refl)
 kept_region r locks other who Unlock n p s h = (refl, refl)
 kept_region r locks other who (Died None) n p s h = (refl, refl)
 kept_region r locks other who (Died (Some torn)) n p s h = absurd (no_other locks other who n s h p.0)
-
--- none of these events is of this opener
-abbrev pub NoneOf : ℕ → List Event → Type 0
-NoneOf who later = AllByRecursion (λ e. e.who ≢ who) later
 
 -- while an opener holds a lock, shared or exclusive, the others change nothing, and it holds it still
 pub held : (start : Region) (later past : List Event) (who : ℕ) → Lawful start (later ++ past) → holds (locks_after past) who ≡ true →

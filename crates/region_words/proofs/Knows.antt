@@ -17,10 +17,11 @@ use Rattle.region_words.specs.Standings.{IsStandingOf}
 use Rattle.region_words.specs.declared.standing.Standing.{Standing}
 use Rattle.region_words.specs.declared.event.What.TheVariants.{Unlock}
 use Rattle.region_words.specs.declared.event.Event.{Event}
-use Rattle.region_words.proofs.EqualSequence.{IsKept, free_resting, sequence_at}
-use Rattle.region_words.proofs.ReadLaws.{kept_checksum, checksum_at, apart_front}
+use Rattle.region_words.proofs.EqualSequence.{free_resting}
+use Rattle.region_words.proofs.ReadLaws.{kept_checksum, apart_front}
 use Rattle.region_words.proofs.PartialLoad.{partial_load, whole_load, loaded_history}
 use Rattle.region_words.proofs.Notices.{lock_free_read, still_whole, standing_stays, whole_history, kept_history, kept_at_rest}
+use Rattle.region_words.specs.Images.{IsKept, checksum_at, sequence_at}
 
 -- At some moment up to now no row was under way, and the region showed a whole image of this standing with this map, the map of the history then.
 pub record Knows (start : Region) (now : List Event) (s : Standing) (m : Map) : Type 0 where

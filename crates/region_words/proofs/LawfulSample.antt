@@ -62,7 +62,7 @@ permitted_lock : IsPermitted start [] (by_two (Lock Exclusive))
 permitted_lock = record { maker = (lit≤ tt, lit≤ tt); alive = refl; possible = (refl, refl); accepted = λ _. refl }
 
 permitted_store : IsPermitted start locked (by_two (store_data 3 0x01636261))
-permitted_store = record { maker = (lit≤ tt, lit≤ tt); alive = refl; possible = (refl, lit≤ tt, lit< tt, tt); accepted = λ _. refl }
+permitted_store = record { maker = (lit≤ tt, lit≤ tt); alive = refl; possible = (refl, lit≤ tt, lit< tt, tt, tt); accepted = λ _. refl }
 
 lawful_begun : Lawful start begun
 lawful_begun = ((tt, permitted_lock, λ _. (Between None, lead_locked)), permitted_store, λ _. (_, lead_begun))
@@ -100,16 +100,16 @@ lawful_sample = (
       (
         (
           lawful_begun,
-          record { maker = (lit≤ tt, lit≤ tt); alive = refl; possible = (refl, lit≤ tt, lit< tt, tt); accepted = λ _. refl },
+          record { maker = (lit≤ tt, lit≤ tt); alive = refl; possible = (refl, lit≤ tt, lit< tt, tt, tt); accepted = λ _. refl },
           λ _. (_, lead_stored),
         ),
-        record { maker = (lit≤ tt, lit≤ tt); alive = refl; possible = (refl, lit≤ tt, lit< tt, tt); accepted = λ _. refl },
+        record { maker = (lit≤ tt, lit≤ tt); alive = refl; possible = (refl, lit≤ tt, lit< tt, tt, tt); accepted = λ _. refl },
         λ _. (_, lead_headed _ refl),
       ),
-      record { maker = (lit≤ tt, lit≤ tt); alive = refl; possible = (refl, lit≤ tt, lit< tt, λ e. absurd cc); accepted = λ _. refl },
+      record { maker = (lit≤ tt, lit≤ tt); alive = refl; possible = (refl, lit≤ tt, lit< tt, λ e. absurd cc, refl); accepted = λ _. refl },
       λ _. (_, (_, lead_headed _ refl, (_, _, (refl, refl), refl))),
     ),
-    record { maker = (lit≤ tt, lit≤ tt); alive = refl; possible = (refl, lit≤ tt, lit< tt, λ e. absurd cc); accepted = λ _. refl },
+    record { maker = (lit≤ tt, lit≤ tt); alive = refl; possible = (refl, lit≤ tt, lit< tt, λ e. absurd cc, tt); accepted = λ _. refl },
     λ _. (_, (_, (_, lead_headed _ refl, (_, _, (refl, refl), refl)), (_, _, (refl, refl), refl))),
   ),
   record { maker = (lit≤ tt, lit≤ tt); alive = refl; possible = refl; accepted = λ _. refl },

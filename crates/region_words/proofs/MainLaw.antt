@@ -37,6 +37,7 @@ use Rattle.region_words.proofs.ShortRows.{safe_any, resize_safe, restore_safe, d
 use Rattle.region_words.proofs.AppendRow.{append_safe}
 use Rattle.region_words.proofs.WriteBack.{pack_safe, clear_safe}
 use Rattle.region_words.proofs.Switch.{enable_safe, disable_safe, recover_safe}
+use Rattle.region_words.specs.Laws.{IsTrueRun, CutsAppend}
 
 -- leave to be broken is there where a broken region is what a row begins in
 needs : (v : View) (m : Map) (b : Bool) → (Shows v m → ⊥) → Shows v m ⊎ (b ≡ true) → b ≡ true
@@ -140,3 +141,14 @@ restore_law start past what rest region ok lawful apart leads =
 pub confirmed_store : (start : Region) → IsRegion start → IsAccepted start → (who x : ℕ) (mark : Mark) (past : List Event) (old new : Phase) → Lawful start past → Apart start past → Reaches start past old →
     Advances (region_after start past) (map_after start past) who old (Store Meta 9 x mark) new → (s : List ℕ) × Contains (strings start past) s × (crc s ≡ x)
 confirmed_store start region ok who x mark past old new l apart leads step = named_store (rows text_laws) start region ok who x mark past old new l apart leads step
+
+-- the two ways in which a death cuts an append
+pub cut_append : (start : Region) (who : ℕ) (torn : Option TornWord) (past : List Event) (a : Act) (phase : Phase) → let e : Event = record { who = who; what = Died torn } in
+    IsTrueRun start (e ∷ past) → CutsAppend start who torn past a phase → ShowsMap (region_after start (e ∷ past)) (map_after start past)
+cut_append start who torn past a (Within row rest) run cut =
+    append_death_law start who torn past a rest run.region run.accepted run.lawful run.apart
+    (subst (λ x. Reaches start past (Within x rest)) cut.0 cut.1)
+    (subst (λ x. MayTear (region_after start past) (map_after start past) who (Within x rest) torn) cut.0 cut.2)
+cut_append start who None past a (Between room) run cut = absurd cut
+cut_append start who (Some t) past a (Between room) run cut =
+    first_word_death_law start who t past room run.region run.accepted run.lawful run.apart cut.0 cut.1

@@ -26,17 +26,19 @@ use Rattle.region_words.specs.declared.event.Mark.TheVariants.{Plain, Commit}
 use Rattle.region_words.specs.declared.event.What.{What}
 use Rattle.region_words.specs.declared.event.What.TheVariants.{Store, Grow, Lock, Unlock, Died}
 use Rattle.region_words.specs.declared.event.Event.{Event}
-use Rattle.region_words.proofs.Held.{locks_sound, two_ways, none_without, held, NoneOf}
+use Rattle.region_words.proofs.Held.{locks_sound, two_ways, none_without, held}
 use Rattle.region_words.proofs.Regions.{lawful_region}
 use Rattle.region_words.proofs.Shows.{whole, shows_whole, shows_header}
 use Rattle.region_words.proofs.WordsRead.{length-payload}
-use Rattle.region_words.proofs.Stands.{Image, Stands, Within, IsGrown, IsAt, Mild, fits_true}
+use Rattle.region_words.proofs.Stands.{Stands, Within, IsGrown, IsAt, Mild, fits_true}
 use Rattle.region_words.proofs.RowsStand.{IsApart, same_flag, by_size}
-use Rattle.region_words.proofs.EqualSequence.{image_of, IsKept, free_resting, sequence_at, OnlyMild, candidates_among}
-use Rattle.region_words.proofs.ReadLaws.{equal_sequence, equal_checksum, kept_fit, kept_map, kept_among, kept_checksum, checksum_at, lawful_front, strings_later, changes_more, run_of}
+use Rattle.region_words.proofs.EqualSequence.{free_resting, OnlyMild, candidates_among}
+use Rattle.region_words.proofs.ReadLaws.{equal_sequence, equal_checksum, kept_fit, kept_map, kept_among, kept_checksum, lawful_front, strings_later, changes_more, run_of}
 use Rattle.region_words.proofs.Rest.{at_rest}
 use Rattle.region_words.proofs.OneRun.{rest_is_one}
-use Rattle.region_words.proofs.PartialLoad.{SameImage, same_image, Loaded}
+use Rattle.region_words.proofs.PartialLoad.{same_image, Loaded}
+use Rattle.region_words.specs.Images.{Image, IsKept, SameImage, checksum_at, image_of, sequence_at}
+use Rattle.region_words.specs.Past.{NoneOf}
 
 both : {a b : Bool} → a ≡ true → b ≡ true → (a && b) ≡ true
 both p q = cc

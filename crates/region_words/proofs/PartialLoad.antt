@@ -15,30 +15,21 @@ use Rattle.meta_record.specs.declared.shown.Shown.TheVariants.{Whole}
 use Rattle.change_log.specs.Acts.{replay, applied}
 use Rattle.change_log.specs.declared.change.Change.{Change}
 use Rattle.std.proofs.lemmas.List.Sums.{fold-append}
-use Rattle.region_words.specs.Region.{Region, IsRegion, record_of, flag, payload_of, file_size, map_in, shown, map_shown, size_of, base}
+use Rattle.region_words.specs.Region.{Region, IsRegion, record_of, flag, payload_of, map_in, shown, map_shown, size_of, base}
 use Rattle.region_words.specs.Past.{region_after, changes_of}
 use Rattle.region_words.specs.Apart.{Apart, strings}
 use Rattle.region_words.specs.Lawful.{Lawful, map_after}
 use Rattle.region_words.specs.declared.event.Event.{Event}
-use Rattle.region_words.proofs.Stored.{Small, Small-take, Small-drop}
+use Rattle.region_words.proofs.WordStores.{Small, Small-take, Small-drop}
 use Rattle.region_words.proofs.Regions.{Small-from_All, lawful_region}
 use Rattle.region_words.proofs.Shows.{whole_shown, shows_whole}
 use Rattle.region_words.proofs.WordsRead.{length-payload, payload-at, same_bytes}
-use Rattle.region_words.proofs.Stands.{Image, kept_bytes, Stands, IsGrown, fits_means, fits_true}
+use Rattle.region_words.proofs.Stands.{Stands, IsGrown, fits_means, fits_true}
 use Rattle.region_words.proofs.RowsStand.{agrees_fits, agrees_crc, same_flag, by_size}
-use Rattle.region_words.proofs.EqualSequence.{image_of, IsKept, sequence_at, candidates_among}
-use Rattle.region_words.proofs.ReadLaws.{equal_sequence, kept_fit, kept_checksum, kept_map, checksum_at, changes_more}
-
--- what an opener knows of a region whose sequence is the kept one
-pub record SameImage (k : Image) (r : Region) : Type 0 where
-  pub content_is : payload_of r k.size ≡ kept_bytes k
-  pub file_is : file_size k.region ≤ file_size r
-  pub flag_is : flag r ≡ flag k.region
-  pub version_is : (record_of r).version ≡ (record_of k.region).version
-  pub last_size_is : (record_of r).last_size ≡ (record_of k.region).last_size
-  pub last_checksum_is : (record_of r).last_checksum ≡ (record_of k.region).last_checksum
-  pub size_is : k.size ≤ (record_of r).size
-  pub extends : (z : ℕ) → k.size ≤ z → payload_of r z ≡ kept_bytes k ++ drop k.size (payload_of r z)
+use Rattle.region_words.proofs.EqualSequence.{candidates_among}
+use Rattle.region_words.proofs.ReadLaws.{equal_sequence, kept_fit, kept_checksum, kept_map, changes_more}
+use Rattle.region_words.specs.Laws.{GoesOn}
+use Rattle.region_words.specs.Images.{LoadsOn, Image, IsKept, SameImage, checksum_at, image_of, kept_bytes, sequence_at}
 
 module _ (k : Image) (fit : 4 + k.size ≤ length k.region.data_bytes) (S : List (List ℕ)) (more : List Change) (r : Region) (s : Stands k S more r) where
   same_content : payload_of r k.size ≡ kept_bytes k
@@ -178,3 +169,14 @@ module _ (start : Region) (past : List Event) (n : ℕ) (m : Map) (kept : IsKept
       l.replayed ∙ ap (λ q. replay q (changes_of later)) is
       ∙ sym (fold-append (λ q c. applied q c.act) (base start) (changes_of past) (changes_of later))
       ∙ ap (replay (base start)) (sym (changes_more later past)))
+
+  -- the same as a law of specs
+  pub loads_on : GoesOn start past n r → LoadsOn start past later n m
+  loads_on on =
+      let l = partial_load on.room on.checksum in
+      record { items = l.items; reads = l.reads; shows = l.shows; maps = l.maps; replayed = l.replayed }
+
+  pub goes_on : (size : ℕ) → shown r ≡ Whole size → (z ≡ size) × GoesOn start past n r
+  goes_on size e =
+      let w = whole_load size e in
+      (sym w.0, record { size = omega (arith, w.0, w.1); room = omega (arith, w.0, w.2); checksum = w.3 })

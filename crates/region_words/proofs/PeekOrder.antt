@@ -26,8 +26,8 @@ use Rattle.region_words.proofs.Samples.{bytes_of, meta}
 use Rattle.region_words.proofs.MapLemmas.{packed-empty}
 use Rattle.region_words.proofs.Regions.{All-from_Small, joined_bytes, zero_bytes}
 use Rattle.region_words.proofs.ApartTest.{apart_by, same_list, all_small}
-use Rattle.region_words.proofs.EqualSequence.{IsKept, free_resting, sequence_at}
-use Rattle.region_words.proofs.ReadLaws.{checksum_at}
+use Rattle.region_words.proofs.EqualSequence.{free_resting}
+use Rattle.region_words.specs.Images.{IsKept, checksum_at, sequence_at}
 
 abbrev nothing : List ℕ
 nothing = 0xff ∷ 0xff ∷ 0xff ∷ 0x07 ∷ []
@@ -124,16 +124,16 @@ lawful = (
     (
       (
         (tt, record { maker = (lit≤ tt, lit≤ tt); alive = refl; possible = (refl, refl); accepted = λ _. refl }, λ _. (Between None, lead_locked)),
-        record { maker = (lit≤ tt, lit≤ tt); alive = refl; possible = (refl, lit≤ tt, lit< tt, λ e. absurd cc); accepted = λ _. refl },
+        record { maker = (lit≤ tt, lit≤ tt); alive = refl; possible = (refl, lit≤ tt, lit< tt, λ e. absurd cc, tt); accepted = λ _. refl },
         λ _. (_, lead_raised),
       ),
-      record { maker = (lit≤ tt, lit≤ tt); alive = refl; possible = (refl, lit≤ tt, lit< tt, tt); accepted = λ _. refl },
+      record { maker = (lit≤ tt, lit≤ tt); alive = refl; possible = (refl, lit≤ tt, lit< tt, tt, tt); accepted = λ _. refl },
       λ _. (_, lead_stored),
     ),
-    record { maker = (lit≤ tt, lit≤ tt); alive = refl; possible = (refl, lit≤ tt, lit< tt, tt); accepted = λ _. refl },
+    record { maker = (lit≤ tt, lit≤ tt); alive = refl; possible = (refl, lit≤ tt, lit< tt, tt, tt); accepted = λ _. refl },
     λ _. (_, lead_headed),
   ),
-  record { maker = (lit≤ tt, lit≤ tt); alive = refl; possible = (refl, lit≤ tt, lit< tt, λ e. absurd cc); accepted = λ _. refl },
+  record { maker = (lit≤ tt, lit≤ tt); alive = refl; possible = (refl, lit≤ tt, lit< tt, λ e. absurd cc, refl); accepted = λ _. refl },
   λ _. (_, lead_marked),
 )
 

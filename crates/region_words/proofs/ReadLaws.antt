@@ -14,10 +14,11 @@ use Rattle.region_words.proofs.Held.{Apart-front}
 use Rattle.region_words.proofs.Shows.{whole_shown}
 use Rattle.region_words.proofs.Sequence.{sequence_never_falls}
 use Rattle.region_words.proofs.WordsRead.{length-payload}
-use Rattle.region_words.proofs.Stands.{Image, kept_bytes, Stands, IsGrown, IsAt, size_among, fits_means}
+use Rattle.region_words.proofs.Stands.{Stands, IsGrown, IsAt, size_among, fits_means}
 use Rattle.region_words.proofs.Stands as stands
 use Rattle.region_words.proofs.RowsStand.{agrees_fits, agrees_crc}
-use Rattle.region_words.proofs.EqualSequence.{image_of, IsKept, sequence_at, OnlyMild, candidates_among, strings_more, stands_along}
+use Rattle.region_words.proofs.EqualSequence.{OnlyMild, candidates_among, strings_more, stands_along}
+use Rattle.region_words.specs.Images.{IsKept, checksum_at, image_of, sequence_at}
 
 -- a journal is lawful up to each of its events, and its payloads are told apart up to each
 pub lawful_front : (start : Region) (later past : List Event) → Lawful start (later ++ past) → Lawful start past
@@ -41,9 +42,6 @@ run_of start (e ∷ past) l a = l.2 (Apart-front start e past a)
 pub changes_more : (later past : List Event) → changes_of (later ++ past) ≡ changes_of past ++ changes_of later
 changes_more [] past = sym (append-nil (changes_of past))
 changes_more (e ∷ later) past = ap (λ c. c ++ change_of e.what) (changes_more later past) ∙ append_assoc (changes_of past) (changes_of later) (change_of e.what)
-
-abbrev pub checksum_at : Region → List Event → ℕ
-checksum_at start past = (record_of (region_after start past)).checksum
 
 module _ (start : Region) (past : List Event) (n : ℕ) (m : Map) (kept : IsKept start past n m) where
   abbrev r0 : Region

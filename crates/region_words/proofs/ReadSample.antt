@@ -2,9 +2,9 @@
 use Rattle.std.proofs.Common.{◌≡◌, ℕ, List, [], ◌∷◌, ◌++◌, refl, sym, ap, lit<, lit≤, ◌<◌}
 use Rattle.std.specs.FinMap as fin
 use Rattle.expiring_map.specs.Map.{Map, value_until}
-use Rattle.region_words.proofs.Stored.{Small}
+use Rattle.region_words.proofs.WordStores.{Small}
 use Rattle.region_words.proofs.Regions.{All-from_Small, joined_bytes, zero_bytes}
-use Rattle.region_words.proofs.EqualSequence.{IsKept, free_resting}
+use Rattle.region_words.proofs.EqualSequence.{free_resting}
 use Rattle.region_words.proofs.PartialLoad.{Loaded, partial_load}
 use Rattle.region_words.proofs.ApartTest.{apart_by, same_list, all_small}
 use Rattle.region_words.specs.Apart.{Apart, strings}
@@ -26,6 +26,7 @@ use Rattle.region_words.specs.declared.event.What.{What}
 use Rattle.region_words.specs.declared.event.What.TheVariants.{Store, Lock, Unlock}
 use Rattle.region_words.specs.declared.event.Event.{Event}
 use Rattle.region_words.proofs.Samples.{bytes_of, meta, one_pair}
+use Rattle.region_words.specs.Images.{IsKept}
 
 abbrev put : Act
 put = act.Put (0x6b ∷ []) (0x01 ∷ 0x64 ∷ []) 0
@@ -87,7 +88,7 @@ permitted_lock : IsPermitted start [] (by_two (Lock Exclusive))
 permitted_lock = record { maker = (lit≤ tt, lit≤ tt); alive = refl; possible = (refl, refl); accepted = λ _. refl }
 
 permitted_store : IsPermitted start locked (by_two (store_data 3 0x01636261))
-permitted_store = record { maker = (lit≤ tt, lit≤ tt); alive = refl; possible = (refl, lit≤ tt, lit< tt, tt); accepted = λ _. refl }
+permitted_store = record { maker = (lit≤ tt, lit≤ tt); alive = refl; possible = (refl, lit≤ tt, lit< tt, tt, tt); accepted = λ _. refl }
 
 lawful_begun : Lawful start begun
 lawful_begun = ((tt, permitted_lock, λ _. (Between None, lead_locked)), permitted_store, λ _. (_, lead_begun))
@@ -125,16 +126,16 @@ lawful_sample = (
       (
         (
           lawful_begun,
-          record { maker = (lit≤ tt, lit≤ tt); alive = refl; possible = (refl, lit≤ tt, lit< tt, tt); accepted = λ _. refl },
+          record { maker = (lit≤ tt, lit≤ tt); alive = refl; possible = (refl, lit≤ tt, lit< tt, tt, tt); accepted = λ _. refl },
           λ _. (_, lead_stored),
         ),
-        record { maker = (lit≤ tt, lit≤ tt); alive = refl; possible = (refl, lit≤ tt, lit< tt, tt); accepted = λ _. refl },
+        record { maker = (lit≤ tt, lit≤ tt); alive = refl; possible = (refl, lit≤ tt, lit< tt, tt, tt); accepted = λ _. refl },
         λ _. (_, lead_headed _ refl),
       ),
-      record { maker = (lit≤ tt, lit≤ tt); alive = refl; possible = (refl, lit≤ tt, lit< tt, λ e. absurd cc); accepted = λ _. refl },
+      record { maker = (lit≤ tt, lit≤ tt); alive = refl; possible = (refl, lit≤ tt, lit< tt, λ e. absurd cc, refl); accepted = λ _. refl },
       λ _. (_, (_, lead_headed _ refl, (_, _, (refl, refl), refl))),
     ),
-    record { maker = (lit≤ tt, lit≤ tt); alive = refl; possible = (refl, lit≤ tt, lit< tt, λ e. absurd cc); accepted = λ _. refl },
+    record { maker = (lit≤ tt, lit≤ tt); alive = refl; possible = (refl, lit≤ tt, lit< tt, λ e. absurd cc, tt); accepted = λ _. refl },
     λ _. (_, (_, (_, lead_headed _ refl, (_, _, (refl, refl), refl)), (_, _, (refl, refl), refl))),
   ),
   record { maker = (lit≤ tt, lit≤ tt); alive = refl; possible = refl; accepted = λ _. refl },

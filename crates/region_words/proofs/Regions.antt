@@ -8,14 +8,14 @@ use Rattle.meta_record.specs.Words.{with_word, grown_to}
 use Rattle.meta_record.proofs.WordLemmas.{length-with_word}
 use Rattle.lock_rules.specs.Locks.{Locks}
 use Rattle.kv_pairs.specs.Growth.{largest}
-use Rattle.region_words.specs.Region.{Region, IsRegion, IsFile}
+use Rattle.region_words.specs.Region.{Region, IsRegion, IsFile, IsAccepted}
 use Rattle.region_words.specs.Past.{region_after, region_step, locks_after}
 use Rattle.region_words.specs.Lawful.{Lawful, IsPossible}
 use Rattle.region_words.specs.declared.event.Side.TheVariants.{Data, Meta}
 use Rattle.region_words.specs.declared.event.What.{What}
 use Rattle.region_words.specs.declared.event.What.TheVariants.{Store, Grow, Lock, Unlock, Died}
 use Rattle.region_words.specs.declared.event.Event.{Event}
-use Rattle.region_words.proofs.Stored.{Small}
+use Rattle.region_words.proofs.WordStores.{Small}
 
 abbrev Byte : ℕ → Type 0
 Byte b = b < 256
@@ -84,3 +84,8 @@ changed_region r locks who (Died (Some torn)) p f = record { data_file = stored_
 pub lawful_region : (start : Region) (past : List Event) → Lawful start past → IsRegion start → IsRegion (region_after start past)
 lawful_region start [] l f = f
 lawful_region start (e ∷ past) l f = changed_region (region_after start past) (locks_after past) e.who e.what l.1.possible (lawful_region start past l.0 f)
+
+-- and an accepted one stays accepted
+pub lawful_accepted : (start : Region) (past : List Event) → IsAccepted start → Lawful start past → IsAccepted (region_after start past)
+lawful_accepted start [] a l = a
+lawful_accepted start (e ∷ past) a l = l.1.accepted a

@@ -18,15 +18,16 @@ use Rattle.region_words.specs.declared.event.Side.TheVariants.{Meta}
 use Rattle.region_words.specs.declared.event.Mark.TheVariants.{Commit}
 use Rattle.region_words.specs.declared.event.What.{What}
 use Rattle.region_words.specs.declared.event.What.TheVariants.{Store}
-use Rattle.region_words.proofs.Stored.{Small, Small-take, Small-drop}
+use Rattle.region_words.proofs.WordStores.{Small, Small-take, Small-drop}
 use Rattle.region_words.proofs.Regions.{Small-from_All, joined_bytes}
 use Rattle.region_words.proofs.Shows.{whole_shown}
 use Rattle.region_words.proofs.ByStanding.{append_is_stores}
 use Rattle.region_words.proofs.AppendedMap.{appended_map}
 use Rattle.region_words.proofs.WordsRead.{length-payload, payload-at}
-use Rattle.region_words.proofs.Stands.{Image, Stands, Fine, Within, IsGrown, IsAt, fits_means}
+use Rattle.region_words.proofs.Stands.{Stands, Fine, Within, IsGrown, IsAt, fits_means}
 use Rattle.region_words.proofs.AppendStands.{words_fine, last_fine}
 use Rattle.region_words.proofs.RowsStand.{item_bytes, some_item, appendable_is, IsApart, same_flag, agrees_fits, by_size, raised_fine, growth_fine, resize_fine, size_repair_is}
+use Rattle.region_words.specs.Images.{Image}
 
 module _ (k : Image) (kept_fit : 4 + k.size ≤ length k.region.data_bytes) (S : List (List ℕ)) (more : List Change) (r : Region)
     (apart : IsApart S) (holds : Within (recorded_payloads r) S) (region : IsRegion r) (s : Stands k S more r) where

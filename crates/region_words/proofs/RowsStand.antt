@@ -25,11 +25,12 @@ use Rattle.region_words.specs.Rows.{SizeRepair, events_of, item_of, IsAppendable
 use Rattle.region_words.proofs.OfRegion.{growth}
 use Rattle.region_words.specs.declared.event.What.{What}
 use Rattle.region_words.specs.declared.event.What.TheVariants.{Grow}
-use Rattle.region_words.proofs.Stored.{Small}
+use Rattle.region_words.proofs.WordStores.{Small}
 use Rattle.region_words.proofs.Regions.{Small-from_All, joined_bytes, word_bytes}
 use Rattle.region_words.proofs.Shows.{whole, by_header, by_last}
 use Rattle.region_words.proofs.WordsRead.{length-payload, same_payload}
-use Rattle.region_words.proofs.Stands.{Image, kept_bytes, Stands, Fine, Within, IsGrown, IsAt, data_stands, size_among, header_among, fits_means}
+use Rattle.region_words.proofs.Stands.{Stands, Fine, Within, IsGrown, IsAt, data_stands, size_among, header_among, fits_means}
+use Rattle.region_words.specs.Images.{Image, kept_bytes}
 
 -- the bytes of an item
 short_bytes : (k n : ℕ) → Small (shortest_in k n)

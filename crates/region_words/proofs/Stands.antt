@@ -3,7 +3,6 @@ use Rattle.std.proofs.Common.{◌≡◌, ◌≢◌, ◌⊎◌, ℕ, zero, suc, �
 use Rattle.std.specs.Prelude.{Some, None, Contains, slice_index, filter, map, nat_le}
 use Rattle.std.proofs.lemmas.Bool.Decides.{nat_tests}
 use Rattle.crc_words.specs.Crc.{crc}
-use Rattle.expiring_map.specs.Map.{Map}
 use Rattle.meta_record.specs.Words.{word_at, fits}
 use Rattle.change_log.specs.Acts.{replay, is_append}
 use Rattle.change_log.specs.declared.change.Change.{Change}
@@ -17,15 +16,7 @@ use Rattle.region_words.specs.declared.event.Side.TheVariants.{Data, Meta}
 use Rattle.region_words.specs.declared.event.Mark.TheVariants.{Plain, Commit}
 use Rattle.region_words.specs.declared.event.What.{What}
 use Rattle.region_words.specs.declared.event.What.TheVariants.{Store, Grow, Lock, Unlock, Died}
-
--- an image that an opener keeps: the region as it was then, the size in it, and the map
-pub record Image : Type 0 where
-  pub region : Region
-  pub size : ℕ
-  pub pairs : Map
-
-abbrev pub kept_bytes : Image → List ℕ
-kept_bytes k = payload_of k.region k.size
+use Rattle.region_words.specs.Images.{Image, kept_bytes}
 
 -- the payload of this size is this one
 abbrev pub IsAt : Region → List ℕ → ℕ → Type 0

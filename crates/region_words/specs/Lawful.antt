@@ -10,7 +10,8 @@ use Rattle.region_words.specs.Rows.{Row, Pack, MayBegin, events_of}
 use Rattle.region_words.specs.Apart.{Apart}
 use Rattle.region_words.specs.declared.event.Side.{Side}
 use Rattle.region_words.specs.declared.event.Side.TheVariants.{Data, Meta}
-use Rattle.region_words.specs.declared.event.Mark.TheVariants.{Plain}
+use Rattle.region_words.specs.declared.event.Mark.{Mark}
+use Rattle.region_words.specs.declared.event.Mark.TheVariants.{Plain, Commit}
 use Rattle.region_words.specs.declared.event.TornWord.{TornWord}
 use Rattle.region_words.specs.declared.event.What.{What}
 use Rattle.region_words.specs.declared.event.What.TheVariants.{Store, Grow, Lock, Unlock, Died}
@@ -26,6 +27,11 @@ abbrev pub IsVersionStore : Side → ℕ → ℕ → Type 0
 IsVersionStore Data word value = ⊤
 IsVersionStore Meta word value = word ≡ 1 → (value ≡ 3) ⊎ (value ≡ 4)
 
+-- the change that a mark commits is its maker's own
+abbrev pub IsMarkOf : ℕ → Mark → Type 0
+IsMarkOf who Plain = ⊤
+IsMarkOf who (Commit change) = change.maker ≡ who
+
 -- A torn word is a payload word.
 abbrev pub IsTornIn : Region → Option TornWord → Type 0
 IsTornIn r None = ⊤
@@ -38,7 +44,7 @@ IsTearer locks who (Some t) = IsTrue (holds_exclusive locks who)
 -- what any opener may do, whatever the checksums are: words are changed under the exclusive lock alone, within the files
 abbrev pub IsPossible : Region → Locks → ℕ → What → Type 0
 IsPossible r locks who (Store side word value mark) =
-    IsTrue (holds_exclusive locks who) × IsWordOf r side word × (value < 2 ^ 32) × IsVersionStore side word value
+    IsTrue (holds_exclusive locks who) × IsWordOf r side word × (value < 2 ^ 32) × IsVersionStore side word value × IsMarkOf who mark
 IsPossible r locks who (Grow size) =
     IsTrue (holds_exclusive locks who) × (file_size r < size) × (size ≤ largest) × (size % 4096 ≡ 0)
 IsPossible r locks who (Lock kind) = MayTake locks who kind

@@ -1,5 +1,5 @@
 -- Counts of faults, and what sources, sinks and shelves tell of their bytes.
-use Rattle.std.specs.Prelude.{◌≡◌, ◌≢◌, ℕ, ◌+◌, ◌-◌, ◌^◌, ◌<◌, ◌≤◌, ◌⊎◌, min, Bool, List, [], ◌++◌, Option, Some, None, length, take, drop, All, IsTrue, if◌then◌else◌}
+use Rattle.std.specs.Prelude.{◌≡◌, ℕ, ◌+◌, ◌-◌, ◌^◌, ◌<◌, ◌≤◌, ◌⊎◌, min, Bool, List, [], ◌++◌, Option, Some, None, length, take, drop, if◌then◌else◌}
 
 -- a count of 64 bits after one more; at its end it stands still
 abbrev pub one_more : ℕ → ℕ

@@ -1,5 +1,6 @@
 -- A past lists the events so far, the latest first.
-use Rattle.std.specs.Prelude.{ℕ, Bool, true, false, List, [], ◌∷◌, ◌++◌, Some, ◌||◌, ◌&&◌, ◌==◌}
+use Rattle.std.specs.Prelude.{◌≢◌, ℕ, Bool, true, false, List, [], ◌∷◌, ◌++◌, Some, ◌||◌, ◌&&◌, ◌==◌}
+use Rattle.std.specs.List.{AllByRecursion}
 use Rattle.lock_rules.specs.Locks.{Locks, unlocked, with_lock, without_holder}
 use Rattle.meta_record.specs.Words.{with_word, grown_to}
 use Rattle.region_words.specs.Region.{Region}
@@ -61,3 +62,7 @@ is_death _ = false
 abbrev pub has_died : List Event → ℕ → Bool
 has_died [] who = false
 has_died (e ∷ past) who = ((e.who == who) && is_death e.what) || has_died past who
+
+-- none of these events is of this opener
+abbrev pub NoneOf : ℕ → List Event → Type 0
+NoneOf who later = AllByRecursion (λ e. e.who ≢ who) later

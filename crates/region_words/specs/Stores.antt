@@ -1,5 +1,5 @@
 -- Stores on a shelf: their IDs, and the bytes that lie under them.
-use Rattle.std.specs.Prelude.{◌≡◌, ℕ, ◌+◌, ◌-◌, ◌*◌, ◌/◌, ◌<◌, ◌≤◌, Bool, false, List, [], ◌∷◌, length, max, nat_lt, ◌==◌, if◌then◌else◌, All, Option, Some, None, find, Result, Ok, Err, ⊤, codes, nat_eq}
+use Rattle.std.specs.Prelude.{◌≡◌, ℕ, ◌+◌, ◌*◌, ◌/◌, ◌<◌, ◌≤◌, Bool, false, List, [], ◌∷◌, length, max, nat_lt, ◌==◌, if◌then◌else◌, All, Option, Some, None, find, Result, Ok, Err, ⊤, codes, nat_eq}
 use Rattle.std.specs.List.{ends_with, list_any}
 use Rattle.std.specs.Str.{IsUtf8, bytes_eq}
 use Rattle.meta_record.specs.Words.{grown_to}

@@ -1,0 +1,142 @@
+-- The laws of a region that several openers change.
+use Rattle.std.specs.Prelude.{◌≡◌, ℕ, ◌+◌, ◌≤◌, List, ◌∷◌, ◌++◌, Option, Some, None, true}
+use Rattle.std.specs.List.{AllByRecursion}
+use Rattle.crc_words.specs.Crc.{crc_from}
+use Rattle.expiring_map.specs.Map.{Map}
+use Rattle.change_log.specs.Acts.{replay, is_append}
+use Rattle.change_log.specs.declared.change.Act.{Act}
+use Rattle.change_log.specs.declared.change.Change.{Change}
+use Rattle.lock_rules.specs.Locks.{holds}
+use Rattle.meta_record.specs.declared.shown.Shown.TheVariants.{Whole, Last}
+use Rattle.region_words.specs.Region.{Region, IsRegion, IsAccepted, record_of, payload_of, file_size, shown, map_shown, ShowsMap}
+use Rattle.region_words.specs.Past.{region_after, changes_of, locks_after, NoneOf}
+use Rattle.region_words.specs.Rows.{Append, Restore, Row, MayBegin}
+use Rattle.region_words.specs.Apart.{Apart}
+use Rattle.region_words.specs.Lawful.{Lawful, Phase, Between, Within, Reaches, MayTear, map_after}
+use Rattle.region_words.specs.Outcome.{AtRest, ShowsHistory, confirmed, HasConfirmed}
+use Rattle.region_words.specs.Images.{image_of, IsKept, SameImage, LoadsOn, bytes_behind, sequence_at, checksum_at}
+use Rattle.region_words.specs.declared.event.TornWord.{TornWord}
+use Rattle.region_words.specs.declared.event.What.TheVariants.{Died}
+use Rattle.region_words.specs.declared.event.Event.{Event}
+
+-- the events were lawful from a region on
+pub record IsRun (start : Region) (past : List Event) : Type 0 where
+  pub region : IsRegion start
+  pub lawful : Lawful start past
+
+-- the same, from an accepted region, and checksums tell the payloads of the run apart
+pub record IsTrueRun (start : Region) (past : List Event) : Type 0 where
+  pub region : IsRegion start
+  pub accepted : IsAccepted start
+  pub lawful : Lawful start past
+  pub apart : Apart start past
+
+-- what is lawful is so up to each of its events
+abbrev pub FrontsAreLawful : Type 0
+FrontsAreLawful = (start : Region) (later past : List Event) → Lawful start (later ++ past) → Lawful start past
+
+-- payloads that are told apart are so up to each event
+abbrev pub FrontsAreApart : Type 0
+FrontsAreApart = (start : Region) (later past : List Event) → Apart start (later ++ past) → Apart start past
+
+-- a region stays one
+abbrev pub StaysARegion : Type 0
+StaysARegion = (start : Region) (past : List Event) → IsRun start past → IsRegion (region_after start past)
+
+-- an accepted region stays accepted
+abbrev pub StaysAccepted : Type 0
+StaysAccepted = (start : Region) (past : List Event) → IsAccepted start → Lawful start past → IsAccepted (region_after start past)
+
+-- where nobody holds exclusive, no row is under way
+abbrev pub RestsWhereFree : Type 0
+RestsWhereFree =
+    (start : Region) (past : List Event) (phase : Phase) → Lawful start past → Reaches start past phase →
+    (locks_after past).exclusive ≡ None → phase ≡ Between None
+
+-- while an opener holds a lock of either kind, the others change nothing, and it holds it still
+abbrev pub HoldersSeeOneRegion : Type 0
+HoldersSeeOneRegion =
+    (start : Region) (later past : List Event) (who : ℕ) → Lawful start (later ++ past) → holds (locks_after past) who ≡ true → NoneOf who later →
+    (region_after start (later ++ past) ≡ region_after start past) × (changes_of (later ++ past) ≡ changes_of past)
+    × (holds (locks_after (later ++ past)) who ≡ true)
+
+-- At rest the region shows the map of the history, unless a death cut a rewrite, or the start was broken and nothing was committed.
+abbrev pub ShowsHistoryAtRest : Type 0
+ShowsHistoryAtRest = (start : Region) (past : List Event) → IsTrueRun start past → AtRest start past → ShowsHistory start past
+
+-- and so it does wherever nobody holds exclusive
+abbrev pub ShowsHistoryWhereFree : Type 0
+ShowsHistoryWhereFree =
+    (start : Region) (past : List Event) → IsTrueRun start past → (locks_after past).exclusive ≡ None → ShowsHistory start past
+
+-- a death cuts an append here, after some of its events or as it tears the first
+abbrev pub CutsAppend : Region → ℕ → Option TornWord → List Event → Act → Phase → Type 0
+CutsAppend start who torn past a (Within row rest) =
+    (row ≡ Append a) × Reaches start past (Within row rest) × MayTear (region_after start past) (map_after start past) who (Within row rest) torn
+CutsAppend start who None past a (Between room) = ⊥
+CutsAppend start who (Some t) past a (Between room) =
+    Reaches start past (Between room) × MayTear (region_after start past) (map_after start past) who (Between room) (Some t)
+
+-- a death within an append, and one that tears its first word, leave a region that shows the map of the history
+abbrev pub ShowsHistoryAfterACutAppend : Type 0
+ShowsHistoryAfterACutAppend =
+    (start : Region) (who : ℕ) (torn : Option TornWord) (past : List Event) (a : Act) (phase : Phase) →
+    let e : Event = record { who = who; what = Died torn } in
+    IsTrueRun start (e ∷ past) → CutsAppend start who torn past a phase → ShowsMap (region_after start (e ∷ past)) (map_after start past)
+
+-- Where the last confirmed image is shown, it is the one that the last confirmed words stand for.
+abbrev pub LastIsConfirmed : Type 0
+LastIsConfirmed =
+    (start : Region) (past : List Event) (n : ℕ) → IsTrueRun start past → HasConfirmed start past → shown (region_after start past) ≡ Last n →
+    confirmed start past ≡ Some (payload_of (region_after start past) n)
+
+-- Where it is shown at rest and its checksum is the record's too, it has the map of the history.
+abbrev pub LastHasTheHistory : Type 0
+LastHasTheHistory =
+    (start : Region) (past : List Event) (n : ℕ) → IsTrueRun start past → AtRest start past → shown (region_after start past) ≡ Last n →
+    (record_of (region_after start past)).checksum ≡ (record_of (region_after start past)).last_checksum →
+    map_shown (region_after start past) ≡ Some (map_after start past)
+
+-- where it is shown, the row that begins restores it
+abbrev pub LastIsRestored : Type 0
+LastIsRestored = (r : Region) (m : Map) (room : Option ℕ) (row : Row) (n : ℕ) → shown r ≡ Last n → MayBegin r m room row → row ≡ Restore
+
+-- these changes are puts and removes
+abbrev pub AreAppends : List Change → Type 0
+AreAppends changes = AllByRecursion (λ c. is_append c.act ≡ true) changes
+
+-- An image was kept, and the sequence is what it was then: the image stands, nothing but appends came, and the region shows their map.
+abbrev pub SequenceTellsTheImage : Type 0
+SequenceTellsTheImage =
+    (start : Region) (later past : List Event) (n : ℕ) (m : Map) → IsRun start (later ++ past) → Apart start (later ++ past) →
+    IsKept start past n m → sequence_at start (later ++ past) ≡ sequence_at start past →
+    SameImage (image_of start past n m) (region_after start (later ++ past)) × AreAppends (changes_of later)
+    × ShowsMap (region_after start (later ++ past)) (replay m (changes_of later))
+
+-- The checksum is peeked first and the sequence then, and both are the kept ones: up to the first peek nothing was changed.
+abbrev pub PeeksTellTheImage : Type 0
+PeeksTellTheImage =
+    (start : Region) (after mid past : List Event) (n : ℕ) (m : Map) → IsRun start (after ++ (mid ++ past)) → Apart start (after ++ (mid ++ past)) →
+    IsKept start past n m → sequence_at start (after ++ (mid ++ past)) ≡ sequence_at start past → checksum_at start (mid ++ past) ≡ checksum_at start past →
+    (changes_of (mid ++ past) ≡ changes_of past) × (map_after start (mid ++ past) ≡ map_after start past)
+
+-- The bytes behind the kept ones fit and take the kept checksum on to the record's.
+pub record GoesOn (start : Region) (past : List Event) (n : ℕ) (r : Region) : Type 0 where
+  pub size : n ≤ (record_of r).size
+  pub room : 4 + (record_of r).size ≤ file_size r
+  pub checksum : crc_from (checksum_at start past) (bytes_behind r n) ≡ (record_of r).checksum
+
+-- The sequence is the kept one: a partial load that goes on from the kept image gives what is shown,
+abbrev pub PartialLoadsHold : Type 0
+PartialLoadsHold =
+    (start : Region) (later past : List Event) (n : ℕ) (m : Map) → IsRun start (later ++ past) → Apart start (later ++ past) →
+    IsKept start past n m → sequence_at start (later ++ past) ≡ sequence_at start past →
+    GoesOn start past n (region_after start (later ++ past)) → LoadsOn start past later n m
+
+-- and where a whole image is shown, the partial load does go on to it.
+abbrev pub WholeImagesGoOn : Type 0
+WholeImagesGoOn =
+    (start : Region) (later past : List Event) (n size : ℕ) (m : Map) → IsRun start (later ++ past) → Apart start (later ++ past) →
+    IsKept start past n m → sequence_at start (later ++ past) ≡ sequence_at start past →
+    shown (region_after start (later ++ past)) ≡ Whole size →
+    ((record_of (region_after start (later ++ past))).size ≡ size) × GoesOn start past n (region_after start (later ++ past))

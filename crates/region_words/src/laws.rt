@@ -1,0 +1,62 @@
+// The laws of a region that several openers change: each is the contract of a function that does nothing.
+ghost use Rattle.region_words.specs.Laws.{FrontsAreLawful, FrontsAreApart, StaysARegion, StaysAccepted, RestsWhereFree, HoldersSeeOneRegion};
+ghost use Rattle.region_words.specs.Laws.{ShowsHistoryAtRest, ShowsHistoryWhereFree, ShowsHistoryAfterACutAppend, LastIsConfirmed, LastHasTheHistory, LastIsRestored};
+ghost use Rattle.region_words.specs.Laws.{SequenceTellsTheImage, PeeksTellTheImage, PartialLoadsHold, WholeImagesGoOn};
+
+/// A journal is lawful up to each of its events, and its payloads are told apart up to each.
+pub fn what_holds_of_a_journal_holds_of_its_fronts()
+    ensures lawful { FrontsAreLawful }
+    ensures apart { FrontsAreApart }
+{}
+
+/// Whatever openers do, a region stays a region, and an accepted one accepted.
+pub fn a_region_stays_a_region()
+    ensures region { StaysARegion }
+    ensures accepted { StaysAccepted }
+{}
+
+/// Where nobody holds the lock exclusive, no row of stores is under way.
+pub fn no_row_is_under_way_where_nobody_holds_exclusive()
+    ensures { RestsWhereFree }
+{}
+
+/// While an opener holds a lock, shared or exclusive, the others change nothing, whatever the checksums are.
+pub fn a_holder_sees_one_region()
+    ensures { HoldersSeeOneRegion }
+{}
+
+/// The central law. Where no row is under way the region shows the map of the history, unless a death cut a rewrite since the
+/// last change, or the start was broken and nothing was changed.
+pub fn a_region_at_rest_shows_its_history()
+    ensures rest { ShowsHistoryAtRest }
+    ensures free { ShowsHistoryWhereFree }
+{}
+
+/// A death within an append leaves the map of the history, with the change from its mark on.
+pub fn a_cut_append_shows_its_history()
+    ensures { ShowsHistoryAfterACutAppend }
+{}
+
+/// Where the last confirmed image is shown, it is the one whose checksum was confirmed last, and it is restored next.
+pub fn the_last_confirmed_image_is_shown()
+    ensures image { LastIsConfirmed }
+    ensures map { LastHasTheHistory }
+    ensures next { LastIsRestored }
+{}
+
+/// An equal sequence means that the kept image stands and nothing but appends came. It needs no lock.
+pub fn an_equal_sequence_tells_that_the_image_stands()
+    ensures { SequenceTellsTheImage }
+{}
+
+/// Two peeks, the checksum's first, that give the kept words mean that nothing was changed up to the first of them.
+pub fn equal_peeks_tell_that_nothing_changed()
+    ensures { PeeksTellTheImage }
+{}
+
+/// With an equal sequence a partial load that goes on to the record's checksum gives the image that a full load would give,
+/// and wherever a whole image is shown it does go on.
+pub fn a_partial_load_that_holds_is_whole()
+    ensures holds { PartialLoadsHold }
+    ensures whole { WholeImagesGoOn }
+{}
