@@ -14,6 +14,8 @@ mod showing;
 mod sink;
 mod source;
 mod standing;
+#[cfg(test)]
+mod tests;
 
 pub use clock::{Clock, SetClock};
 pub use event::{Event, Mark, Side, TornWord, What};
