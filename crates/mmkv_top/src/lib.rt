@@ -8,6 +8,8 @@ mod limits;
 mod mode;
 mod player;
 mod refusals;
+#[cfg(test)]
+mod tests;
 mod top;
 
 pub use ending::Status;
