@@ -13,7 +13,7 @@ use region_words::{MemSink, MemSource};
 use std::alloc::Global;
 use std::test::Fail;
 
-// The words of the meta file, and what is added to the payload's front of four bytes.
+// What stands in the words of the two files; the header is the record's size.
 #[derive(Clone, Copy)]
 struct Stored {
     version: u32,
