@@ -1,7 +1,7 @@
 // How often an opener has asked for the lock, by kind.
 ghost use Rattle.std.specs.Prelude.{◌≡◌, ◌<◌};
 ghost use Rattle.lock_rules.specs.declared.counts.TheConstants.{MOST_HOLDS};
-ghost use Rattle.lock_rules.specs.Counts.{Counts, IsWithin, none_counted, count_of, counted_up, counted_down, ask_of, left_of, leave_of};
+ghost use Rattle.lock_rules.specs.Counts.{IsWithin, none_counted, count_of, counted_up, counted_down, ask_of, left_of, leave_of};
 ghost use Rattle.lock_rules.specs.Steps.{AsksAs, TookAs, LeavesAs};
 
 use crate::table::LockKind;

@@ -1,6 +1,6 @@
 // The table of holders.
 ghost use Rattle.std.specs.Prelude.{◌≡◌, ◌↔◌, ℕ, ◌<◌, ◌≤◌, false, true, IfSome, IfNone};
-ghost use Rattle.lock_rules.specs.Locks.{Locks, IsSound, holds, unlocked, MayTake, with_lock, without_holder, IsLeastAgainst};
+ghost use Rattle.lock_rules.specs.Locks.{IsSound, holds, unlocked, MayTake, with_lock, without_holder, IsLeastAgainst};
 ghost use Rattle.lock_rules.specs.Holders.{AreHolders, holders_of};
 ghost use Rattle.std.specs.FinSet as set;
 

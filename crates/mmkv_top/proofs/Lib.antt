@@ -1,2 +1,4 @@
 mod Dumped
 mod Playing
+mod Taking
+mod Ended

@@ -1,5 +1,6 @@
 -- What each command is due to end with.
-use Rattle.std.specs.Prelude.{◌≡◌, ℕ, List, [], ◌∷◌, ◌⊎◌, Option, Result, Ok, Err, Contains, MatchBool, length, nat_lt, ◌==◌, codes, decimal}
+use Rattle.std.specs.Prelude.{◌≡◌, ℕ, List, [], ◌∷◌, ◌⊎◌, Option, Result, Ok, Err, IsTrue, MatchBool, length, nat_lt, ◌==◌, codes, decimal}
+use Rattle.std.specs.List.{list_any}
 use Rattle.meta_record.specs.declared.record.RecordFault.{RecordFault}
 use Rattle.meta_record.specs.declared.record.RecordFault.TheVariants.{Version, Flags}
 use Rattle.meta_record.specs.declared.shown.Shown.{Shown}
@@ -50,9 +51,13 @@ OfFiles of_region body meta e =
     MatchBool (nat_lt LARGEST_DATA (length body)) (e ≡ over_limit (length body))
     (MatchBool (nat_lt LARGEST_META (length meta)) (e ≡ over_limit (length meta)) (of_region (region_in body meta) e))
 
+-- the status is one of these
+abbrev pub IsAmong : List ℕ → ℕ → Type 0
+IsAmong statuses status = IsTrue (list_any (λ s. s == status) statuses)
+
 -- the ending by what lies under an ID; where that is untold, its status alone
 abbrev pub OfStore : List ℕ → (Region → Ending → Type 0) → Told → Ending → Type 0
-OfStore statuses of_region Untold e = Contains statuses e.status
+OfStore statuses of_region Untold e = IsAmong statuses e.status
 OfStore statuses of_region Nothing e = e ≡ no_store
 OfStore statuses of_region (Files body meta) e = OfFiles of_region body meta e
 

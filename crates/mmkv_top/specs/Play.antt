@@ -1,5 +1,5 @@
 -- What `play` does with the lines of a script, for one opener over a plain map.
-use Rattle.std.specs.Prelude.{◌≡◌, ◌≢◌, ℕ, ◌+◌, ◌-◌, ◌<◌, ◌≤◌, ◌⊎◌, Bool, true, false, List, [], ◌∷◌, ◌++◌, Option, Some, None, length, take, map, flat_map, All, nat_eq, is_some, ◌==◌, if◌then◌else◌, codes, decimal}
+use Rattle.std.specs.Prelude.{◌≡◌, ◌≢◌, ℕ, ◌+◌, ◌-◌, ◌<◌, ◌≤◌, ◌⊎◌, Bool, true, false, List, [], ◌∷◌, ◌++◌, Option, Some, None, length, take, map, flat_map, All, nat_eq, slice_index, is_some, ◌==◌, if◌then◌else◌, codes, decimal}
 use Rattle.std.specs.List.{ends_with}
 use Rattle.bstr.specs.Text.{lines_of}
 use Rattle.std.specs.FinMap as fin
@@ -113,11 +113,11 @@ without_feed line = if ends_with nat_eq line (10 ∷ []) then take (length line 
 abbrev pub texts_of : List ℕ → List (List ℕ)
 texts_of script = map without_feed (lines_of script)
 
--- the script's lines that end, and what stands behind them
-pub record IsCutInLines (script ended rest : List ℕ) : Type 0 where
-  pub parts : script ≡ ended ++ rest
-  pub at_end : (ended ≡ []) ⊎ ((front : List ℕ) × (ended ≡ front ++ 10 ∷ []))
-  pub behind : All (λ b. b ≢ 10) rest
+-- the script's lines that end are its first bytes, so many: behind them stands no line feed
+pub record EndsLines (script : List ℕ) (size : ℕ) : Type 0 where
+  pub within : size ≤ length script
+  pub at_end : (size ≡ 0) ⊎ (slice_index script (size - 1) ≡ 10)
+  pub behind : (k : ℕ) → size ≤ k → k < length script → slice_index script k ≢ 10
 
 -- lines, and bytes of one, that a script may have
 abbrev pub IsWithin : List (List ℕ) → Type 0
@@ -157,4 +157,4 @@ IsScriptRefused texts beyond e = (number : ℕ) × IsFirstRefused texts beyond n
 abbrev pub PlaysInput : Option (List ℕ) → Option (List ℕ) → Ending → Type 0
 PlaysInput left now e =
     ((script : List ℕ) × IsWholeInput left now script × (IsPlayed (texts_of script) e ⊎ IsScriptRefused (texts_of script) false e))
-    ⊎ ((script ended rest : List ℕ) × IsCutInput left script × IsCutInLines script ended rest × IsScriptRefused (texts_of ended) true e)
+    ⊎ ((script : List ℕ) × (size : ℕ) × IsCutInput left script × EndsLines script size × IsScriptRefused (texts_of (take size script)) true e)

@@ -1,14 +1,15 @@
 -- The player of a script: its state, and what it adds to its outcomes.
-use Rattle.std.specs.Prelude.{◌≡◌, ℕ, ◌<◌, ◌≤◌, ◌⊎◌, false, List, [], ◌∷◌, ◌++◌, Option, length}
+use Rattle.std.specs.Prelude.{◌≡◌, ℕ, ◌+◌, ◌<◌, ◌≤◌, ◌⊎◌, false, List, [], ◌∷◌, ◌++◌, Option, MatchBool, length}
 use Rattle.std.specs.Vec.{vec_len}
 use Rattle.change_log.specs.declared.call.Call.{Call}
 use Rattle.script_lang.specs.declared.line.Line.{Line}
 use Rattle.script_lang.specs.declared.outcome.Outcome.{Outcome}
 use Rattle.mmkv_top.specs.declared.player.Player.{Player}
+use Rattle.mmkv_top.specs.declared.lines.Taken.{Taken}
 use Rattle.mmkv_top.specs.declared.mode.Mode.{Mode}
 use Rattle.mmkv_top.specs.declared.mode.Mode.TheVariants.{Running}
 use Rattle.mmkv_top.specs.Play.{State, at_start, Leads, EndsCall, MayBegin, Plays, IsWithin, IsRefusedIn, IsFirstRefused, answers_in}
-use Rattle.mmkv_top.specs.declared.limits.TheConstants.{LARGEST_LINE}
+use Rattle.mmkv_top.specs.declared.limits.TheConstants.{LARGEST_COUNT, LARGEST_LINE}
 use Rattle.script_lang.specs.Lines.{IsLine}
 use Rattle.mmkv_top.specs.Plain.{IsPlain}
 
@@ -38,15 +39,19 @@ Ends now c begun old new =
 abbrev pub AddsText : Player → Player → List ℕ → Type 0
 AddsText old new text = (length text ≤ LARGEST_LINE) × ((l : Option Line) × IsLine text l × Adds old new l)
 
--- the text of a line is too long, or refused in this state
-abbrev pub IsRefusedText : State → List ℕ → Type 0
-IsRefusedText s text = (LARGEST_LINE < length text) ⊎ IsRefusedIn s text
+-- the text of a line behind so many others is one too many, is too long, or is refused in this state
+abbrev pub IsRefusedAfter : ℕ → State → List ℕ → Type 0
+IsRefusedAfter count s text = (LARGEST_COUNT ≤ count) ⊎ (LARGEST_LINE < length text) ⊎ IsRefusedIn s text
 
--- all lines were taken
-pub record IsAllTaken (texts : List (List ℕ)) (p : Player) : Type 0 where
-  pub within : IsWithin texts
-  pub played : Plays at_start texts (state_of p) p.outcomes.items
+-- the first lines of a script were taken, and these are left
+pub record IsTaken (texts left : List (List ℕ)) (p : Player) (count : ℕ) : Type 0 where
+  pub front : List (List ℕ)
+  pub parts : texts ≡ front ++ left
+  pub within : IsWithin front
+  pub played : Plays at_start front (state_of p) p.outcomes.items
+  pub counted : count ≡ length front
+  pub few : vec_len p.changes ≤ count
 
--- the line of this number is the first that is refused
-abbrev pub IsStoppedAt : List (List ℕ) → Player → ℕ → Type 0
-IsStoppedAt texts p number = IsFirstRefused texts false number
+-- all lines were taken, or the next one is the first that is refused
+abbrev pub IsTakenToEnd : List (List ℕ) → Player → Taken → Type 0
+IsTakenToEnd texts p t = MatchBool t.refused (IsFirstRefused texts false (t.count + 1)) (IsTaken texts [] p t.count)

@@ -10,6 +10,8 @@ use region_words::is_id;
 pub(crate) enum Command<'a> {
     /// Writes the text of a store's region.
     Dump { id: &'a [u8] },
+    /// Plays the script of the input on a fresh store.
+    Play { id: &'a [u8] },
 }
 
 /// The command that the words give. The first word names the directory, and is not looked at.
@@ -25,6 +27,7 @@ pub(crate) fn command_of(words: &[Bytes]) -> Option<Command<'_>>
     }
     match name.as_slice() {
         b"dump" => Some(Command::Dump { id }),
+        b"play" => Some(Command::Play { id }),
         _ => None,
     }
 }

@@ -1,11 +1,11 @@
 // The command `dump`.
-ghost use Rattle.std.specs.Prelude.{◌≡◌, ℕ, ◌≤◌, List, IfOk, length};
+ghost use Rattle.std.specs.Prelude.{◌≡◌, ℕ, ◌≤◌, ◌∷◌, List, IfOk, length};
 ghost use Rattle.region_words.specs.Outside.{Rose};
 ghost use Rattle.region_words.specs.Region.{region_of, shown};
 ghost use Rattle.region_words.specs.Stores.{IsId};
 ghost use Rattle.script_lang.specs.Texts.{region_text};
 ghost use Rattle.mmkv_top.specs.Ending.{ending, IsDueOr};
-ghost use Rattle.mmkv_top.specs.Due.{IsDump, IsDumpOf, IsEndingOf, dump_of, region_in};
+ghost use Rattle.mmkv_top.specs.Due.{IsAmong, dump_statuses, IsDump, IsDumpOf, IsEndingOf, dump_of, region_in};
 
 use crate::ending::Ending;
 use crate::refusals::{refused, unbrought};
@@ -20,6 +20,8 @@ pub(crate) fn dump<D: Shelf>(alloc: Global, shelf: &mut D, id: &[u8]) -> Ending
     requires { IsId id.now }
     ensures due { IsDueOr (Rose (D.faults shelf.old) (D.faults shelf.new)) (IsDump (D.stores shelf.old id.now)) result }
     ensures same { (other : List ℕ) → D.stores shelf.new other ≡ D.stores shelf.old other }
+    ensures statuses { IsAmong (5 ∷ 8 ∷ dump_statuses) result.status }
+    ensures fault { result.status ≡ 5 → Rose (D.faults shelf.old) (D.faults shelf.new) }
     ensures clean { result.status ≡ 0 → D.faults shelf.new ≡ D.faults shelf.old }
 {
     let brought = shelf.bring(id);

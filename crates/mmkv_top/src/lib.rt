@@ -5,7 +5,9 @@ mod command;
 mod dump;
 mod ending;
 mod limits;
+mod lines;
 mod mode;
+mod play;
 mod player;
 mod refusals;
 #[cfg(test)]
@@ -14,6 +16,7 @@ mod top;
 
 pub use ending::Status;
 pub use limits::{LARGEST_COUNT, LARGEST_LINE};
+pub use lines::Taken;
 pub use mode::Mode;
 pub use player::Player;
 pub use top::run;

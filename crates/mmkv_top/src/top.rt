@@ -1,38 +1,69 @@
 // The top call.
-ghost use Rattle.std.specs.Prelude.{◌≡◌, ℕ, List, codes};
+ghost use Rattle.std.specs.Prelude.{◌≡◌, ◌≢◌, ℕ, List, codes};
 ghost use Rattle.region_words.specs.Outside.{Rose};
 ghost use Rattle.mmkv_top.specs.Command.{IsNamed, IsNoCommand};
 ghost use Rattle.mmkv_top.specs.Ending.{EndsWith, IsDueOr, ending};
-ghost use Rattle.mmkv_top.specs.Due.{IsDump};
+ghost use Rattle.mmkv_top.specs.Due.{IsDump, IsPlay};
 
 use crate::command::{Command, command_of};
 use crate::dump::dump;
 use crate::ending::{Ending, Status, deliver};
+use crate::play::play;
 use expiring_map::Bytes;
-use region_words::{Shelf, Sink};
+use region_words::{Shelf, Sink, Source};
 use std::alloc::Global;
 
 /// Does what the words ask of a shelf of stores, and writes what comes of it. The first word names the directory; the
 /// caller has made the shelf of it. The whole text is made before the first byte is written.
-pub fn run<D: Shelf, K: Sink>(alloc: Global, words: &[Bytes], shelf: &mut D, out: &mut K) -> Status
+pub fn run<D: Shelf, S: Source, K: Sink>(
+    alloc: Global,
+    words: &[Bytes],
+    shelf: &mut D,
+    input: &mut S,
+    out: &mut K,
+) -> Status
+    // What each command ends with. Instead the shelf, the source or the sink had a fault, or memory was refused.
     ensures usage { IsNoCommand words.now → EndsWith (K.written out.old) (K.written out.new)
         (Rose (K.faults out.old) (K.faults out.new)) (Rose (D.faults shelf.old) (D.faults shelf.new)) result
         (λ e. e ≡ ending 2 (codes "usage\n")) }
     ensures dump { (id : List ℕ) → IsNamed words.now (codes "dump") id → EndsWith (K.written out.old) (K.written out.new)
         (Rose (K.faults out.old) (K.faults out.new)) (Rose (D.faults shelf.old) (D.faults shelf.new)) result
         (IsDump (D.stores shelf.old id)) }
+    ensures play { (id : List ℕ) → IsNamed words.now (codes "play") id → EndsWith (K.written out.old) (K.written out.new)
+        (Rose (K.faults out.old) (K.faults out.new)) (Rose (D.faults shelf.old) (D.faults shelf.new)) result
+        (IsPlay (S.left input.old) (S.left input.new) (Rose (S.faults input.old) (S.faults input.new)) (D.stores shelf.old id)) }
+
+    // Each fault has its cause.
+    ensures usage_only { result.0 ≡ 2 → IsNoCommand words.now }
+    ensures read_fault { result.0 ≡ 3 → Rose (S.faults input.old) (S.faults input.new) }
+    ensures write_fault { result.0 ≡ 4 → Rose (K.faults out.old) (K.faults out.new) }
+    ensures region_fault { result.0 ≡ 5 → Rose (D.faults shelf.old) (D.faults shelf.new) }
+
+    // What stays, and what can't have come before a success.
+    ensures same { (id : List ℕ) → D.stores shelf.new id ≡ D.stores shelf.old id }
+    ensures clean { result.0 ≡ 0 → D.faults shelf.new ≡ D.faults shelf.old }
 {
-    deliver(&plan(alloc, words, shelf), out)
+    deliver(&plan(alloc, words, shelf, input), out)
 }
 
 // What the run is to end with.
-fn plan<D: Shelf>(alloc: Global, words: &[Bytes], shelf: &mut D) -> Ending
+fn plan<D: Shelf, S: Source>(alloc: Global, words: &[Bytes], shelf: &mut D, input: &mut S) -> Ending
     ensures usage { IsNoCommand words.now → IsDueOr (Rose (D.faults shelf.old) (D.faults shelf.new)) (λ e. e ≡ ending 2 (codes "usage\n")) result }
     ensures dump { (id : List ℕ) → IsNamed words.now (codes "dump") id →
         IsDueOr (Rose (D.faults shelf.old) (D.faults shelf.new)) (IsDump (D.stores shelf.old id)) result }
+    ensures play { (id : List ℕ) → IsNamed words.now (codes "play") id →
+        IsDueOr (Rose (D.faults shelf.old) (D.faults shelf.new))
+        (IsPlay (S.left input.old) (S.left input.new) (Rose (S.faults input.old) (S.faults input.new)) (D.stores shelf.old id)) result }
+    ensures usage_only { result.status ≡ 2 → IsNoCommand words.now }
+    ensures read_fault { result.status ≡ 3 → Rose (S.faults input.old) (S.faults input.new) }
+    ensures no_write { result.status ≢ 4 }
+    ensures region_fault { result.status ≡ 5 → Rose (D.faults shelf.old) (D.faults shelf.new) }
+    ensures same { (id : List ℕ) → D.stores shelf.new id ≡ D.stores shelf.old id }
+    ensures clean { result.status ≡ 0 → D.faults shelf.new ≡ D.faults shelf.old }
 {
     match command_of(words) {
         Some(Command::Dump { id }) => dump(alloc, shelf, id),
+        Some(Command::Play { id }) => play(alloc, shelf, id, input),
         None => match Ending::of_text(alloc, 2, "usage\n") {
             Ok(ending) => ending,
             Err(_) => Ending::no_memory(alloc),

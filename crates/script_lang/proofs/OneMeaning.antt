@@ -1,8 +1,8 @@
 -- A line is read in one way: what the words mean is a function of them.
-use Rattle.std.proofs.Common.{◌≡◌, ◌≢◌, ℕ, zero, suc, ◌+◌, ◌<◌, ◌≤◌, ◌^◌, List, [], ◌∷◌, ◌++◌, length, drop, get_or, refl, ap, sym, ◌∙◌, subst, inl, inr, arith, decimal, FitsSigned}
-use Rattle.std.specs.Prelude.{◌==◌, if◌then◌else◌, Option, Some, None, Result, Ok, Err, codes, true, false}
+use Rattle.std.proofs.Common.{◌≡◌, ◌≢◌, ℕ, suc, ◌<◌, ◌^◌, List, [], ◌∷◌, drop, get_or, refl, ap, sym, ◌∙◌, inl, inr, arith, decimal}
+use Rattle.std.specs.Prelude.{◌==◌, if◌then◌else◌, Some, None, Result, Ok, Err, codes, true, false}
 use Rattle.std.specs.Fmt.{signed_decimal}
-use Rattle.std.specs.Int.{from_be_bytes, to_be_bytes, w32}
+use Rattle.std.specs.Int.{from_be_bytes, w32}
 use Rattle.std.specs.Str.Parse.{digits_value}
 use Rattle.std.proofs.Math.IntN.{ℤ, pos, negsuc, neg_ℤ}
 use Rattle.std.proofs.lemmas.Fmt.{decimal_is_IsNumeral}
@@ -23,7 +23,7 @@ use Rattle.script_lang.specs.declared.line.Line.{Line}
 use Rattle.script_lang.specs.declared.line.Line.TheVariants.{Open, Begin, Step, Die, Next}
 use Rattle.script_lang.specs.declared.line.Strategy.{Strategy}
 use Rattle.script_lang.specs.declared.line.Strategy.TheVariants.{Discard, Recover, Leave}
-use Rattle.script_lang.specs.Lines.{IsNumber, IsHex, IsBits, IsValueWord, IsPut, IsCall, IsCallLine, IsLineOf, IsLine, NamesOneThing, kind_word, strategy_word}
+use Rattle.script_lang.specs.Lines.{IsNumber, IsHex, IsBits, IsValueWord, IsPut, IsCall, IsLineOf, IsLine, NamesOneThing, kind_word, strategy_word}
 use Rattle.script_lang.specs.Texts.{spaced}
 use Rattle.script_lang.specs.Splitting.{words_of}
 use Rattle.script_lang.proofs.Numerals.{decimal_plain, mag_of_32, mag_of_64}

@@ -1,7 +1,6 @@
 // Values as words of a command line.
-ghost use Rattle.std.specs.Prelude.{◌≡◌, ◌≢◌, ◌↔◌, Ok, Err, ℕ, ◌*◌, ◌^◌, ◌<◌, ◌++◌, List, ℤ, Bool, IfOk, OnOk, OnErr, IfSome, IfNone, IsTrue, IsErrOf, FitsSigned, codes, decimal};
+ghost use Rattle.std.specs.Prelude.{◌≡◌, ◌≢◌, ◌↔◌, Err, ℕ, ◌^◌, ◌<◌, ◌++◌, List, ℤ, Bool, IfOk, OnOk, OnErr, IfSome, IfNone, IsTrue, IsErrOf, decimal};
 ghost use Rattle.std.specs.Fmt.{signed_decimal};
-ghost use Rattle.std.specs.Int.{w32, w64};
 ghost use Rattle.hex.specs.Hex.{decode_of, encode_lower, is_hex_digit};
 ghost use Rattle.std.specs.List.{AllPass};
 ghost use Rattle.wire_values.specs.Values.{kind_of};
@@ -44,6 +43,7 @@ fn bool_in(word: &[u8]) -> Option<bool>
     }
 }
 
+// A parse also takes a sign and zeros in front, so the word has to be what is written for its number.
 fn u64_in(word: &[u8]) -> Option<u64>
     ensures some { IfSome result (λ n. word.now ≡ decimal n) }
     ensures none { IfNone result ((n : ℕ) → n < 2 ^ 64 → word.now ≡ decimal n → ⊥) }
@@ -77,6 +77,7 @@ fn u32_in(word: &[u8]) -> Option<u32>
     u32::try_from(u64_in(word)?).ok()
 }
 
+// As in `u64_in`, with a sign.
 fn i64_in(word: &[u8]) -> Option<i64>
     ensures some { IfSome result (λ z. SpellsWord word.now (value.I64 z)) }
     ensures none { IfNone result ((z : ℤ) → SpellsWord word.now (value.I64 z) → ⊥) }
@@ -96,7 +97,6 @@ fn i64_in(word: &[u8]) -> Option<i64>
     }
 }
 
-#[tactic(auto, using(std::proofs::lemmas::Fmt::signed_decimal_injective))]
 fn i32_in(word: &[u8]) -> Option<i32>
     ensures some { IfSome result (λ z. SpellsWord word.now (value.I32 z)) }
     ensures none { IfNone result ((z : ℤ) → SpellsWord word.now (value.I32 z) → ⊥) }

@@ -1,4 +1,4 @@
-use Rattle.std.proofs.Common.{arith, refl}
+use Rattle.std.proofs.Common.{refl}
 use Rattle.mmkv_top.specs.Due.{IsDumpOf, dump_statuses}
 use Rattle.mmkv_top.proofs.Dumped.{due, dump_of_status}
 use Rattle.mmkv_top.proofs.dump.dump.Goals as goal
@@ -6,5 +6,5 @@ use Rattle.mmkv_top.proofs.dump.dump.Goals as goal
 pub returns-in-Ok-clause-due : goal.returns-in-Ok-clause-due
 returns-in-Ok-clause-due g c =
     due dump_statuses IsDumpOf (g.D.Shelf.stores c.args.shelf.now c.args.id.now) c.bring-brought.result c.in-Ok.ending _
-    (λ x d. dump_of_status x c.in-Ok.ending d) (3, omega arith, refl) (4, omega arith, refl)
+    (λ x d. dump_of_status x c.in-Ok.ending d) refl refl
     c.bring-brought.ensures.told c.bring-brought.ensures.failed c.in-Ok.ensures
