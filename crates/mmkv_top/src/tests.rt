@@ -5,7 +5,7 @@ use meta_record::{
     WORD_CHECKSUM, WORD_FLAGS_LOW, WORD_LAST_CHECKSUM, WORD_LAST_SIZE, WORD_SEQUENCE, WORD_SIZE,
     WORD_VERSION, store_word,
 };
-use region_words::{MemShelf, MemSink};
+use region_words::{MemShelf, MemSink, MemSource};
 use std::alloc::Global;
 use std::test::Fail;
 
@@ -94,7 +94,8 @@ fn ran(
         line.push(Bytes::copy_of(alloc, word)?)?;
     }
     let mut out = MemSink::new(alloc, room, Vec::new(alloc))?;
-    let Status(status) = run(alloc, &line, shelf, &mut out);
+    let mut input = MemSource::new(Vec::new(alloc), Vec::new(alloc));
+    let Status(status) = run(alloc, &line, shelf, &mut input, &mut out);
     Ok((status, Bytes::copy_of(alloc, out.written())?))
 }
 
