@@ -12,6 +12,8 @@ mod play;
 mod play_tests;
 mod player;
 mod refusals;
+#[cfg(test)]
+mod tests;
 mod top;
 
 pub use ending::Status;

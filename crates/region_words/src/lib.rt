@@ -24,6 +24,8 @@ mod sink;
 mod source;
 mod standing;
 mod stops;
+#[cfg(test)]
+mod tests;
 
 pub use account::Account;
 pub use clock::{Clock, SetClock};

@@ -11,6 +11,8 @@ mod line;
 mod outcome;
 mod output;
 mod region;
+#[cfg(test)]
+mod tests;
 mod value_words;
 mod words;
 
