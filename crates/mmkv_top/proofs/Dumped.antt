@@ -1,5 +1,5 @@
 -- What a dump ends with follows from what the shelf brought.
-use Rattle.std.proofs.Common.{◌≡◌, ℕ, ◌<◌, Bool, true, false, cond, List, [], ◌∷◌, length, refl, sym, ap, ◌∙◌, inl, inr, subst, arith}
+use Rattle.std.proofs.Common.{◌≡◌, ℕ, Bool, true, false, cond, List, [], ◌∷◌, length, refl, sym, ap, ◌∙◌, inl, inr, subst}
 use Rattle.std.specs.Prelude.{Result, Ok, Err, IsErrOf, MatchBool, nat_lt, ◌||◌, ◌==◌}
 use Rattle.std.specs.List.{list_any}
 use Rattle.meta_record.specs.declared.record.RecordFault.{RecordFault}
@@ -7,14 +7,14 @@ use Rattle.meta_record.specs.declared.record.RecordFault.TheVariants.{Version, F
 use Rattle.meta_record.specs.declared.shown.Shown.{Shown}
 use Rattle.meta_record.specs.declared.shown.Shown.TheVariants.{Whole, Header, Last, Damaged}
 use Rattle.region_words.specs.Region.{Region, shown_if_accepted}
-use Rattle.region_words.specs.Stores.{Told, Untold, Nothing, Files, brought, IsDueOrRefused}
+use Rattle.region_words.specs.Stores.{Told, Untold, Nothing, Files, IsDueOrRefused}
 use Rattle.region_words.specs.declared.shelf.TheConstants.{LARGEST_DATA, LARGEST_META}
 use Rattle.region_words.specs.declared.shelf.Brought.{Brought}
 use Rattle.region_words.specs.declared.shelf.ShelfStop.{ShelfStop}
 use Rattle.region_words.specs.declared.shelf.ShelfStop.TheVariants.{Failed, Absent, SizeRefused, Memory}
 use Rattle.mmkv_top.specs.declared.ending.Ending.{Ending}
 use Rattle.mmkv_top.specs.Ending.{ending, IsDueOr}
-use Rattle.mmkv_top.specs.Due.{IsAmong, IsDumpOf, IsEndingOf, OfStore, dump_statuses, dump_of, dump_if_accepted, dump_shown, over_limit, region_in}
+use Rattle.mmkv_top.specs.Due.{IsAmong, IsDumpOf, IsEndingOf, OfStore, dump_statuses, dump_if_accepted, dump_shown, over_limit, region_in}
 
 abbrev HasDumpStatus : Ending → Type 0
 HasDumpStatus e = IsAmong dump_statuses e.status

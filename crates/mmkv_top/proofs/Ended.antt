@@ -1,5 +1,5 @@
 -- What a play ends with follows from the lines that were taken.
-use Rattle.std.proofs.Common.{◌≡◌, ℕ, ◌+◌, Bool, true, false, List, [], ◌∷◌, ◌++◌, length, refl, sym, ap, ◌∙◌, inl, inr, arith, subst, append-nil}
+use Rattle.std.proofs.Common.{◌≡◌, ℕ, ◌+◌, Bool, true, false, List, [], ◌∷◌, ◌++◌, refl, sym, ◌∙◌, inl, inr, subst, append-nil}
 use Rattle.std.specs.Prelude.{◌⊎◌, flat_map, MatchBool, codes, decimal, Option, Result, Ok, Err, ◌==◌}
 use Rattle.meta_record.specs.declared.record.RecordFault.{RecordFault}
 use Rattle.meta_record.specs.declared.record.RecordFault.TheVariants.{Version, Flags}

@@ -1,6 +1,6 @@
 -- One opener's answers over a plain map stay a legal history, call by call.
-use Rattle.std.proofs.Common.{◌≡◌, ◌≢◌, ℕ, zero, suc, ◌+◌, ◌<◌, ◌≤◌, Bool, true, false, List, [], ◌∷◌, ◌++◌, refl, sym, ap, ◌∙◌, length, inl, inr, arith, subst, length-append}
-use Rattle.std.specs.Prelude.{Option, Some, None, IfSome, slice_get, slice_index_or, take, IsTrue, All, AllPairs, Any, is_some, ◌⊎◌}
+use Rattle.std.proofs.Common.{◌≡◌, ℕ, zero, suc, ◌+◌, ◌<◌, ◌≤◌, true, false, List, [], ◌∷◌, ◌++◌, refl, sym, ap, ◌∙◌, length, inl, inr, arith, subst, length-append}
+use Rattle.std.specs.Prelude.{Some, None, IfSome, slice_get, slice_index_or, take, IsTrue, Any, is_some, ◌⊎◌}
 use Rattle.std.proofs.lemmas.List.{get_or_append_left}
 use Rattle.std.proofs.lemmas.List.Elements.{All-push}
 use Rattle.std.proofs.lemmas.List.Quantifiers.{all_pairs_push}

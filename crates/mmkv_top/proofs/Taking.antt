@@ -1,6 +1,6 @@
 -- A play goes on by one line.
 use Rattle.std.proofs.Common.{◌≡◌, ℕ, ◌+◌, ◌<◌, ◌≤◌, Bool, true, false, List, [], ◌∷◌, ◌++◌, length, refl, sym, ap, ◌∙◌, inl, inr, arith, subst, length-append, append_assoc, append-nil, vec_len}
-use Rattle.std.specs.Prelude.{Option, ◌⊎◌, map}
+use Rattle.std.specs.Prelude.{Option}
 use Rattle.std.specs.Bool.{OnFalse}
 use Rattle.std.proofs.lemmas.List.Elements.{All-push}
 use Rattle.script_lang.specs.declared.line.Line.{Line}
@@ -9,7 +9,7 @@ use Rattle.script_lang.specs.Lines.{IsLine}
 use Rattle.script_lang.proofs.OneMeaning.{names_one_thing}
 use Rattle.mmkv_top.specs.declared.limits.TheConstants.{LARGEST_COUNT, LARGEST_LINE}
 use Rattle.mmkv_top.specs.declared.player.Player.{Player}
-use Rattle.mmkv_top.specs.Play.{State, at_start, Leads, Plays, IsWithin, IsRefusedIn, IsRefusedNext, IsFirstRefused, without_feed}
+use Rattle.mmkv_top.specs.Play.{State, at_start, Leads, Plays, IsRefusedIn, IsRefusedNext, IsFirstRefused}
 use Rattle.mmkv_top.specs.Player.{state_of, AddsText, IsRefusedAfter, IsTaken}
 
 -- one more line is played

@@ -1,5 +1,5 @@
 -- What `play` does with the lines of a script, for one opener over a plain map.
-use Rattle.std.specs.Prelude.{◌≡◌, ◌≢◌, ℕ, ◌+◌, ◌-◌, ◌<◌, ◌≤◌, ◌⊎◌, Bool, true, false, List, [], ◌∷◌, ◌++◌, Option, Some, None, length, take, map, flat_map, All, nat_eq, slice_index, is_some, ◌==◌, if◌then◌else◌, codes, decimal}
+use Rattle.std.specs.Prelude.{◌≡◌, ◌≢◌, ℕ, ◌+◌, ◌-◌, ◌<◌, ◌≤◌, ◌⊎◌, Bool, true, false, List, [], ◌∷◌, ◌++◌, Option, Some, None, length, take, map, flat_map, All, nat_eq, slice_index, is_some, if◌then◌else◌, codes, decimal}
 use Rattle.std.specs.List.{ends_with}
 use Rattle.bstr.specs.Text.{lines_of}
 use Rattle.std.specs.FinMap as fin

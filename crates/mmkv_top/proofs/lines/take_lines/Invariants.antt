@@ -1,4 +1,3 @@
-use Rattle.std.proofs.Common.{◌≡◌, ℕ, List}
 use Rattle.std.specs.Prelude.{map}
 use Rattle.mmkv_top.specs.Play.{texts_of, without_feed}
 use Rattle.mmkv_top.specs.Player.{IsPlaying, IsTaken}

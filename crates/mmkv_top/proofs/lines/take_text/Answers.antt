@@ -1,4 +1,4 @@
-use Rattle.std.proofs.Common.{Bool, true, false, inr, List}
+use Rattle.std.proofs.Common.{List}
 use Rattle.std.proofs.lemmas.Result.{IfOk-weaker}
 use Rattle.std.specs.Bool.{OnFalse}
 use Rattle.script_lang.specs.declared.outcome.Outcome.{Outcome}

@@ -1,8 +1,7 @@
-use Rattle.std.proofs.Common.{arith, refl, ap, ◌∙◌, ◌++◌, ◌∷◌, [], List, ℕ}
+use Rattle.std.proofs.Common.{arith, ap, ◌∙◌, ◌++◌, ◌∷◌, [], List, ℕ}
 use Rattle.change_log.specs.History.{reply_in}
 use Rattle.change_log.specs.declared.call.Call.TheVariants.{Get}
 use Rattle.change_log.specs.declared.call.Answer.{Answer}
-use Rattle.change_log.specs.declared.change.Change.{Change}
 use Rattle.script_lang.specs.declared.outcome.Outcome.TheVariants.{Answered}
 use Rattle.mmkv_top.proofs.Playing.{get_played, at_rest}
 use Rattle.mmkv_top.proofs.player.Player.get.Goals as goal
