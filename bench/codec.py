@@ -3,7 +3,9 @@
 
 By hand, after `rt ci`:  python3 bench/codec.py
 Each program runs with its work done once and eleven times, and the difference counts, so that making the data doesn't. It says for each size how many times the plain program's time
-ours is, and for each step in size how much more ours grows than the plain program's does (at most a fifth more is wanted)."""
+ours is, and for each step in size how much more ours grows than the plain program's does (at most a fifth more is wanted). Packing takes
+more than ten times as long for ten times the pairs in both programs, though it runs ten times the instructions: the pairs of the larger map lie scattered in memory. The
+checksum's ratio is below 1 because the compiler of ours makes a table of the loop over bits, and g++ doesn't."""
 import os
 import subprocess
 import sys
