@@ -17,7 +17,11 @@ pub struct DirShelf<'a, R: Files + AllocGlobal> {
 }
 
 impl<'a, R: Files + AllocGlobal> DirShelf<'a, R> {
-    pub fn new(rt: &'a R, directory: Bytes) -> DirShelf<'a, R> {
+    /// No call has failed on it.
+    pub fn new(rt: &'a R, directory: Bytes) -> DirShelf<'a, R>
+        ensures directory { result.directory ≡ directory }
+        ensures faults { result.faults ≡ 0 }
+    {
         DirShelf {
             rt,
             directory,

@@ -1,5 +1,5 @@
 // Standard output, as a sink.
-ghost use Rattle.std.specs.Prelude.{◌≤◌, None};
+ghost use Rattle.std.specs.Prelude.{◌≡◌, ◌≤◌, None};
 ghost use Rattle.region_words.specs.Outside.{Rose};
 
 use region_words::{Failed, Sink};
@@ -12,7 +12,10 @@ pub struct StdSink<'a, R: Print> {
 }
 
 impl<'a, R: Print> StdSink<'a, R> {
-    pub fn new(rt: &'a R) -> StdSink<'a, R> {
+    /// No call has failed on it.
+    pub fn new(rt: &'a R) -> StdSink<'a, R>
+        ensures { result.faults ≡ 0 }
+    {
         StdSink { rt, faults: 0 }
     }
 }

@@ -1,5 +1,5 @@
 // Standard input, as a source.
-ghost use Rattle.std.specs.Prelude.{None};
+ghost use Rattle.std.specs.Prelude.{◌≡◌, None};
 
 use region_words::{Failed, Source};
 use std::io::{Input, Read};
@@ -12,7 +12,10 @@ pub struct StdSource<R: Input> {
 }
 
 impl<R: Input> StdSource<R> {
-    pub fn new(rt: &R) -> StdSource<R> {
+    /// No call has failed on it.
+    pub fn new(rt: &R) -> StdSource<R>
+        ensures { result.faults ≡ 0 }
+    {
         StdSource {
             reader: rt.reader(),
             faults: 0,

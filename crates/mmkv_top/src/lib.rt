@@ -11,7 +11,11 @@ mod play;
 #[cfg(test)]
 mod play_tests;
 mod player;
+#[cfg(test)]
+mod random_tests;
 mod refusals;
+#[cfg(test)]
+mod second_reading;
 #[cfg(test)]
 mod tests;
 mod top;

@@ -22,6 +22,15 @@ const WHOLE_TEXT: &[u8] =
 const FRESH_TEXT: &[u8] =
     b"region data 4096 version 0 sequence 0 flags 0\nsizes header 0 record 0 last 0\nchecksums record 00000000 last 00000000\nshown whole 0\npairs 0\n";
 
+const HEADER_TEXT: &[u8] =
+    b"region data 4096 version 3 sequence 1 flags 0\nsizes header 11 record 5 last 4\nchecksums record 3a6595d3 last 4c9985d1\nshown header 11\npairs 1\npair 6b 03616263 0\n";
+
+const LAST_TEXT: &[u8] =
+    b"region data 4096 version 3 sequence 1 flags 0\nsizes header 11 record 11 last 4\nchecksums record 00000005 last 4c9985d1\nshown last 4\npairs 0\n";
+
+const NOTHING_TEXT: &[u8] =
+    b"region data 4096 version 3 sequence 1 flags 0\nsizes header 4294967295 record 4294967295 last 0\nchecksums record 00000005 last 00000000\nshown last 0\npairs 0\n";
+
 // What stands in the two files beside the payload.
 #[derive(Clone, Copy)]
 struct Stored {
@@ -141,8 +150,19 @@ fn a_shelf_that_fails_or_refuses_gives_no_region(rt: HostRuntime) -> Result<(), 
 
 #[test]
 fn a_region_is_dumped_or_named_damaged(rt: HostRuntime) -> Result<(), Fail> {
-    let rows: [(Stored, &[u8], u8, &[u8]); 10] = [
+    let rows: [(Stored, &[u8], u8, &[u8]); 13] = [
         (WHOLE, PAYLOAD, 0, WHOLE_TEXT),
+        (Stored { size: 5, ..WHOLE }, PAYLOAD, 0, HEADER_TEXT),
+        (
+            Stored {
+                checksum: 5,
+                ..WHOLE
+            },
+            PAYLOAD,
+            0,
+            LAST_TEXT,
+        ),
+        (stored_as(3, 0, u32::MAX, 5, [0, 0]), b"", 0, NOTHING_TEXT),
         (stored_as(0, 0, 0, 0, [0, 0]), b"", 0, FRESH_TEXT),
         (
             Stored {
