@@ -1,6 +1,6 @@
 // A seat at a region in memory: a share that owns it.
-ghost use Rattle.std.specs.Prelude.{◌≡◌, ◌+◌, ◌≤◌, false, Some, None, length, IfErr, IfSome, OnOk};
-ghost use Rattle.region_words.specs.Share.{IsNotDue, Fails, most_events};
+ghost use Rattle.std.specs.Prelude.{◌≡◌, ◌+◌, ◌≤◌, false, [], Some, None, length, IfErr, IfSome, OnOk};
+ghost use Rattle.region_words.specs.Share.{IsNotDue, Fails, MayMake, most_events};
 ghost use Rattle.region_words.specs.Local.{Seated, IsLocal, LacksPlaces, seat_state, seat_called, account_of, with_account, after_admission, kept_in, stop_of};
 
 use crate::event::{Mark, Side, What};
@@ -213,6 +213,8 @@ mod tests {
     fn admitted(alloc: Global, fails: Vec<u64>) -> Option<LocalSeat>
         ensures alive { IfSome result (λ s. (seat_state s).ended ≡ false) }
         ensures free { IfSome result (λ s. (seat_state s).holds ≡ None) }
+        ensures maker { IfSome result (λ s. s.who ≡ 1) }
+        ensures past { IfSome result (λ s. s.region.past ≡ []) }
     {
         let mut region = LocalRegion::new(alloc, Vec::new(alloc), Vec::new(alloc)).ok()?;
         region.fail_at(fails);
@@ -223,12 +225,41 @@ mod tests {
     fn holder(alloc: Global) -> Option<LocalSeat>
         ensures alive { IfSome result (λ s. (seat_state s).ended ≡ false) }
         ensures held { IfSome result (λ s. (seat_state s).holds ≡ Some LockKind.Exclusive) }
+        ensures rests { IfSome result (λ s. MayMake What.Unlock (seat_state s)) }
     {
         let mut seat = admitted(alloc, Vec::new(alloc))?;
         match seat.try_lock(LockKind::Exclusive) {
             Ok(Tried::Taken) => Some(seat),
             _ => None,
         }
+    }
+
+    // Word 3 of the data file, of which a share has the first page.
+    fn word_3<S: Share>(share: &mut S) -> Result<u32, ShareStop>
+        requires { (S.state share.old).ended ≡ false }
+    {
+        let _ = share.who();
+        share.load(Side::Data, 3)
+    }
+
+    #[test]
+    fn a_word_is_loaded_from_its_place(rt: HostRuntime) {
+        let alloc = rt.alloc();
+        let body = b"\x0b\0\0\0\xff\xff\xff\x07\x01k\x04\x03abc"
+            .to_vec(alloc)
+            .expect(&rt, "ample memory");
+        let mut region = LocalRegion::new(alloc, body, Vec::new(alloc)).expect(&rt, "ample memory");
+        region.admit(1).expect(&rt, "ample memory");
+        let mut seat = region.seat(1);
+        assert_eq!(rt; word_3(&mut seat), Ok(u32::from_le_bytes(*b"abc\0")));
+    }
+
+    #[test]
+    fn an_unlock_is_noted_and_frees_the_lock(rt: HostRuntime) {
+        let mut seat = holder(rt.alloc()).expect(&rt, "ample memory");
+        assert_eq!(rt; seat.unlock(), Ok(()));
+        assert_eq!(rt; seat.try_lock(LockKind::Shared), Ok(Tried::Taken));
+        assert_eq!(rt; seat.region().journal().len(), 3);
     }
 
     #[test]
