@@ -17,8 +17,8 @@ may_unlock_first s t one none goes =
     let g = goes.after.told in
     let who_is : t.who ≡ 1 = goes.after.same.who ∙ one in
     let past_is : t.region.past ≡ event_of 1 (Lock Exclusive) ∷ [] =
-        g.past ∙ ap (λ others. made_by s.who (Lock Exclusive ∷ []) ++ (others ++ s.region.past)) (g.none refl)
-        ∙ ap (λ past. made_by s.who (Lock Exclusive ∷ []) ++ past) none ∙ ap (λ w. made_by w (Lock Exclusive ∷ [])) one in
+    g.past ∙ ap (λ others. made_by s.who (Lock Exclusive ∷ []) ++ (others ++ s.region.past)) (g.none refl)
+    ∙ ap (λ past. made_by s.who (Lock Exclusive ∷ []) ++ past) none ∙ ap (λ w. made_by w (Lock Exclusive ∷ [])) one in
     let start = t.region.start in
     let lawful = unlocks start (subst (λ past. Lawful start past) past_is goes.after.sound.told.lawful) in
     subst (λ w. Lawful start (event_of w Unlock ∷ t.region.past)) (sym who_is) (subst (λ past. Lawful start (event_of 1 Unlock ∷ past)) (sym past_is) lawful)

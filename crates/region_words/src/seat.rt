@@ -1,5 +1,6 @@
 // A seat at a region in memory: a share that owns it.
-ghost use Rattle.std.specs.Prelude.{◌≡◌, ◌+◌, ◌≤◌, false, [], Some, None, length, IfErr, IfSome, OnOk};
+ghost use Rattle.std.specs.Prelude.{◌≡◌, ◌+◌, ◌<◌, ◌≤◌, false, [], Some, None, length, IfErr, IfSome, OnOk};
+ghost use Rattle.region_words.specs.Stores.{filled_up};
 ghost use Rattle.region_words.specs.Share.{IsNotDue, Fails, MayMake, most_events};
 ghost use Rattle.region_words.specs.Local.{Seated, IsLocal, LacksPlaces, seat_state, seat_called, account_of, with_account, after_admission, kept_in, stop_of};
 
@@ -244,13 +245,8 @@ mod tests {
 
     #[test]
     fn a_word_is_loaded_from_its_place(rt: HostRuntime) {
-        let alloc = rt.alloc();
-        let body = b"\x0b\0\0\0\xff\xff\xff\x07\x01k\x04\x03abc"
-            .to_vec(alloc)
-            .expect(&rt, "ample memory");
-        let mut region = LocalRegion::new(alloc, body, Vec::new(alloc)).expect(&rt, "ample memory");
-        region.admit(1).expect(&rt, "ample memory");
-        let mut seat = region.seat(1);
+        let body = b"\x0b\0\0\0\xff\xff\xff\x07\x01k\x04\x03abc";
+        let mut seat = opened(rt.alloc(), body, b"").expect(&rt, "ample memory");
         assert_eq!(rt; word_3(&mut seat), Ok(u32::from_le_bytes(*b"abc\0")));
     }
 
@@ -260,6 +256,53 @@ mod tests {
         assert_eq!(rt; seat.unlock(), Ok(()));
         assert_eq!(rt; seat.try_lock(LockKind::Shared), Ok(Tried::Taken));
         assert_eq!(rt; seat.region().journal().len(), 3);
+    }
+
+    // A region of these files whose opener 1 may make events.
+    fn opened(alloc: Global, body: &[u8], meta: &[u8]) -> Option<LocalSeat>
+        ensures alive { IfSome result (λ s. (seat_state s).ended ≡ false) }
+        ensures free { IfSome result (λ s. (seat_state s).holds ≡ None) }
+        ensures maker { IfSome result (λ s. s.who ≡ 1) }
+        ensures past { IfSome result (λ s. s.region.past ≡ []) }
+        ensures start { IfSome result (λ s. s.region.start ≡ record { data_bytes = filled_up body.now; meta_bytes = filled_up meta.now }) }
+    {
+        let body = body.to_vec(alloc).ok()?;
+        let meta = meta.to_vec(alloc).ok()?;
+        let mut region = LocalRegion::new(alloc, body, meta).ok()?;
+        region.admit(1).ok()?;
+        Some(region.seat(1))
+    }
+
+    // Opener 1 holds the lock of a store whose header alone agrees, and has a place for one store.
+    fn repairing(alloc: Global) -> Option<LocalSeat>
+        ensures alive { IfSome result (λ s. (seat_state s).ended ≡ false) }
+        ensures held { IfSome result (λ s. (seat_state s).holds ≡ Some LockKind.Exclusive) }
+        ensures place { IfSome result (λ s. 0 < (seat_state s).reserved s.who) }
+        ensures row { IfSome result (λ s. MayMake (What.Store Side.Meta 7 11 Mark.Plain) (seat_state s)) }
+    {
+        let mut seat = opened(
+            alloc,
+            b"\x0b\0\0\0\xff\xff\xff\x07\x01k\x04\x03abc",
+            b"\xd3\x95\x65\x3a\x03\0\0\0\x01\0\0\0\0\0\0\0\0\0\0\0\0\0\0\0\0\0\0\0\x04\0\0\0\x04\0\0\0\xd1\x85\x99\x4c",
+        )?;
+        match seat.try_lock(LockKind::Exclusive) {
+            Ok(Tried::Taken) => {}
+            _ => return None,
+        }
+        match seat.reserve(1, 0) {
+            Ok(()) => Some(seat),
+            Err(_) => None,
+        }
+    }
+
+    #[test]
+    fn a_store_is_noted_and_changes_its_word_alone(rt: HostRuntime) {
+        let mut seat = repairing(rt.alloc()).expect(&rt, "ample memory");
+        assert_eq!(rt; seat.store(Side::Meta, 7, 11, Mark::Plain).is_ok(), true);
+        let region = seat.into_region();
+        assert_eq!(rt; region.journal().len(), 2);
+        let meta = region.meta_bytes();
+        assert_eq!(rt; meta.get(28..36), Some(b"\x0b\0\0\0\x04\0\0\0".as_slice()));
     }
 
     #[test]
