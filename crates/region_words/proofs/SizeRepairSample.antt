@@ -10,7 +10,7 @@ use Rattle.region_words.specs.Region.{Region, shown}
 use Rattle.region_words.specs.Rows.{SizeRepair, events_of, store_meta}
 use Rattle.region_words.specs.Lawful.{Lawful, Between, Reaches, IsPermitted}
 use Rattle.region_words.specs.Stores.{filled_up}
-use Rattle.region_words.specs.Share.{Goes, MayMake, locked, reserving, made_by}
+use Rattle.region_words.specs.Share.{Goes, MayMake, reserving}
 use Rattle.region_words.specs.Local.{Seated, seat_state, event_of}
 use Rattle.region_words.specs.declared.event.What.{What}
 use Rattle.region_words.specs.declared.event.What.TheVariants.{Lock}
@@ -49,17 +49,6 @@ permitted = record { maker = (lit≤ tt, lit≤ tt); alive = refl; possible = (r
 
 repairs : Lawful sample lock → Lawful sample (event_of 1 repair ∷ lock)
 repairs l = (l, permitted, λ _. (Between None, leads))
-
--- what a share that is alone has told after its first lock
-pub locked_past : (s t : Seated) → s.who ≡ 1 → s.region.past ≡ [] → Goes (locked Exclusive (seat_state s)) (seat_state s) (seat_state t) →
-    (t.who ≡ 1) × (t.region.start ≡ s.region.start) × (t.region.past ≡ event_of 1 (Lock Exclusive) ∷ [])
-locked_past s t one none goes =
-    let g = goes.after.told in (
-      goes.after.same.who ∙ one,
-      g.start,
-      g.past ∙ ap (λ others. made_by s.who (Lock Exclusive ∷ []) ++ (others ++ s.region.past)) (g.none refl)
-          ∙ ap (λ past. made_by s.who (Lock Exclusive ∷ []) ++ past) none ∙ ap (λ w. made_by w (Lock Exclusive ∷ [])) one,
-    )
 
 -- the size may be stored after a reservation
 pub may_repair : (s t : Seated) → (events size : ℕ) → s.who ≡ 1 → s.region.start ≡ sample → s.region.past ≡ lock →

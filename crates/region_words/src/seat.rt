@@ -1,7 +1,7 @@
 // A seat at a region in memory: a share that owns it.
 ghost use Rattle.std.specs.Prelude.{◌≡◌, ◌+◌, ◌<◌, ◌≤◌, false, [], Some, None, length, IfErr, IfSome, OnOk};
 ghost use Rattle.region_words.specs.Stores.{filled_up};
-ghost use Rattle.region_words.specs.Share.{IsNotDue, Fails, MayMake, most_events};
+ghost use Rattle.region_words.specs.Share.{IsNotDue, Fails, MayMake, MayTearAt, most_events};
 ghost use Rattle.region_words.specs.Local.{Seated, IsLocal, LacksPlaces, seat_state, seat_called, account_of, with_account, after_admission, kept_in, stop_of};
 
 use crate::event::{Mark, Side, What};
@@ -293,6 +293,39 @@ mod tests {
             Ok(()) => Some(seat),
             Err(_) => None,
         }
+    }
+
+    // Opener 1 holds the lock of a store with the pair k, abc, and may die within the first store of an append.
+    fn appending(alloc: Global) -> Option<LocalSeat>
+        ensures alive { IfSome result (λ s. (seat_state s).ended ≡ false) }
+        ensures tears { IfSome result (λ s. MayTearAt (Some (record { word = 3; new = 0x01636261; bits = 0xffffffff })) (seat_state s)) }
+    {
+        let mut seat = opened(
+            alloc,
+            b"\x0b\0\0\0\xff\xff\xff\x07\x01k\x04\x03abc",
+            b"\xd3\x95\x65\x3a\x03\0\0\0\x01\0\0\0\0\0\0\0\0\0\0\0\0\0\0\0\0\0\0\0\x0b\0\0\0\x04\0\0\0\xd1\x85\x99\x4c",
+        )?;
+        match seat.try_lock(LockKind::Exclusive) {
+            Ok(Tried::Taken) => Some(seat),
+            _ => None,
+        }
+    }
+
+    #[test]
+    fn a_torn_death_keeps_the_bytes_that_would_not_change(rt: HostRuntime) {
+        let mut seat = appending(rt.alloc()).expect(&rt, "ample memory");
+        let torn = TornStore {
+            word: 3,
+            new: u32::from_le_bytes(*b"abc\x01"),
+            bits: u32::MAX,
+        };
+        assert_eq!(rt; seat.die(Some(torn)), Ok(()));
+        let region = seat.into_region();
+        assert_eq!(rt;
+            region.data_bytes().get(8..20),
+            Some(b"\x01k\x04\x03abc\xff\0\0\0\0".as_slice())
+        );
+        assert_eq!(rt; region.journal().len(), 2);
     }
 
     #[test]

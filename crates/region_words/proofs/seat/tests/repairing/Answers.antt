@@ -2,7 +2,8 @@ use Rattle.std.proofs.Common.{subst, ◌∙◌}
 use Rattle.lock_rules.specs.declared.table.LockKind.TheVariants.{Exclusive}
 use Rattle.region_words.specs.Share.{Tries}
 use Rattle.region_words.specs.Local.{seat_state}
-use Rattle.region_words.proofs.SizeRepairSample.{locked_past, may_repair}
+use Rattle.region_words.proofs.FirstLock.{locked_past}
+use Rattle.region_words.proofs.SizeRepairSample.{may_repair}
 use Rattle.region_words.proofs.seat.tests.repairing.Goals as goal
 
 pub returns-in-Ok-clause-row : goal.returns-in-Ok-clause-row
