@@ -12,7 +12,7 @@ use Rattle.region_words.specs.Local.{event_of, lock_after}
 use Rattle.region_words.specs.Coming.{IsStoring}
 use Rattle.region_words.specs.Told.{History}
 use Rattle.region_words.specs.Share.{ShareState, Agrees, Grows, Goes, IsTurnedAway, MayMake, stored}
-use Rattle.region_words.specs.Owing.{IsStorable, AreStorable, Comes, Owes, IsOwing}
+use Rattle.region_words.specs.Owing.{IsStorable, AreStorable, AreWithin, Comes, Owes, IsOwing}
 use Rattle.region_words.specs.declared.event.What.{What}
 use Rattle.region_words.specs.declared.event.What.TheVariants.{Store, Grow, Lock, Unlock, Died}
 use Rattle.region_words.specs.declared.event.Event.{Event}
@@ -101,6 +101,7 @@ owing_next row first rest old new is goes =
       holds = goes.after.holds ∙ is.holds;
       maker = goes.after.sound.maker;
       places = let p = is.places in let q = ap new.reserved goes.after.same.who ∙ goes.after.places in omega (arith, p, q);
+      room = subst (λ n. AreWithin n rest) (sym (ap new.room goes.after.same.who ∙ goes.after.room)) is.room.1;
       told = told_step old.told new.told (Owes row (first ∷ rest) old) (Agrees new) (Owes row rest new) (Grows old.who old.alone (first ∷ []))
           (λ h k. owes_next row first rest old new goes.after.same.who is.holds h k) is.told goes.after.told goes.after.sound.told;
     }
@@ -126,6 +127,7 @@ owing_turned row events old new is turned =
       holds = turned.after.holds ∙ is.holds;
       maker = turned.after.sound.maker;
       places = let p = is.places in let q = ap new.reserved turned.after.same.who ∙ turned.after.places in omega (arith, p, q);
+      room = subst (λ n. AreWithin n events) (sym (ap new.room turned.after.same.who ∙ turned.after.room)) is.room;
       told = told_step old.told new.told (Owes row events old) (Agrees new) (Owes row events new) (Grows old.who old.alone [])
           (λ h k. owes_still row events old new turned.after.same.who is.holds h k) is.told turned.after.told turned.after.sound.told;
     }

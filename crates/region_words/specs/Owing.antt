@@ -1,5 +1,5 @@
 -- A share whose opener is to make the events of a row.
-use Rattle.std.specs.Prelude.{◌≡◌, ℕ, ◌%◌, ◌^◌, ◌<◌, ◌≤◌, false, List, [], ◌∷◌, Some, length}
+use Rattle.std.specs.Prelude.{◌≡◌, ℕ, ◌%◌, ◌^◌, ◌<◌, ◌≤◌, false, List, [], ◌∷◌, Some, length, ⊤}
 use Rattle.kv_pairs.specs.Growth.{largest}
 use Rattle.lock_rules.specs.declared.table.LockKind.TheVariants.{Exclusive}
 use Rattle.region_words.specs.Region.{Region, IsAccepted, file_size}
@@ -37,10 +37,21 @@ pub record Owes (row : Row) (events : List What) (s : ShareState) (h : History) 
   pub storable : AreStorable (region_after h.start h.past) s.who events
   pub coming : Apart h.start h.past → Comes h.start h.past s.who row events
 
--- it holds exclusive, has places for these events, and they may be made one after another
+-- it grows the file, if at all, to no more than this size
+abbrev pub IsWithin : ℕ → What → Type 0
+IsWithin room (Grow size) = size ≤ room
+IsWithin room _ = ⊤
+
+-- and so does each of these events
+abbrev pub AreWithin : ℕ → List What → Type 0
+AreWithin room [] = ⊤
+AreWithin room (what ∷ rest) = IsWithin room what × AreWithin room rest
+
+-- it holds exclusive, has places and room for these events, and they may be made one after another
 pub record IsOwing (row : Row) (events : List What) (s : ShareState) : Type 0 where
   pub alive : s.ended ≡ false
   pub holds : s.holds ≡ Some Exclusive
   pub maker : (1 ≤ s.who) × (s.who ≤ 64)
   pub places : length events ≤ s.reserved s.who
+  pub room : AreWithin (s.room s.who) events
   pub told : OnTold s.told (Owes row events s)
