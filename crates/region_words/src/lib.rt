@@ -8,14 +8,17 @@ mod event;
 mod failing;
 mod id;
 mod laws;
+mod listed_events;
 mod mem_shelf;
 mod mem_sink;
 mod mem_source;
 mod mute;
 mod next;
 mod pages;
+mod payload_words;
 mod places;
 mod region;
+mod row_maker;
 mod seat;
 mod share;
 mod shelf;
@@ -39,13 +42,16 @@ pub use laws::{
     no_row_is_under_way_where_nobody_holds_exclusive, the_last_confirmed_image_is_shown,
     what_holds_of_a_journal_holds_of_its_fronts,
 };
+pub use listed_events::ListedEvents;
 pub use mem_shelf::{MemShelf, Shelved};
 pub use mem_sink::MemSink;
 pub use mem_source::MemSource;
 pub use next::{Next, Stored};
 pub use pages::fill_up;
+pub use payload_words::PayloadWords;
 pub use places::{AdmitStop, MOST_EVENTS};
 pub use region::{LocalRegion, RegionStop};
+pub use row_maker::RowMaker;
 pub use seat::LocalSeat;
 pub use share::Share;
 pub use shelf::{Brought, LARGEST_DATA, LARGEST_META, Shelf, ShelfStop};
