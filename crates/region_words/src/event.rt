@@ -42,6 +42,35 @@ pub enum What {
     },
 }
 
+impl What {
+    ghost use Rattle.std.specs.Prelude.{◌≡◌};
+    ghost use Rattle.region_words.specs.Rows.{store_data, store_meta};
+
+    /// A store in the data file that commits no change.
+    pub fn data(word: u32, value: u32) -> What
+        ensures { result ≡ store_data word value }
+    {
+        What::Store {
+            side: Side::Data,
+            word,
+            value,
+            mark: Mark::Plain,
+        }
+    }
+
+    /// A store in the meta file that commits no change.
+    pub fn meta(word: u32, value: u32) -> What
+        ensures { result ≡ store_meta word value }
+    {
+        What::Store {
+            side: Side::Meta,
+            word,
+            value,
+            mark: Mark::Plain,
+        }
+    }
+}
+
 /// One step that changed the region, and its maker.
 #[derive(Drop)]
 pub struct Event {

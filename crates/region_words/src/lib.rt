@@ -48,7 +48,7 @@ pub use mem_sink::MemSink;
 pub use mem_source::MemSource;
 pub use next::{Next, Stored};
 pub use pages::fill_up;
-pub use payload_words::PayloadWords;
+pub use payload_words::{PayloadWords, tail_word};
 pub use places::{AdmitStop, MOST_EVENTS};
 pub use region::{LocalRegion, RegionStop};
 pub use row_maker::RowMaker;

@@ -1,7 +1,7 @@
 // The words of a payload, stored one after another.
 ghost use Rattle.std.specs.Prelude.{◌≡◌, ◌≢◌, ◌+◌, ◌*◌, ◌<◌, ◌≤◌, ◌^◌, [], length, drop, OnErr, OnOk, IfErr};
 ghost use Rattle.region_words.specs.Rows.{stores_from};
-ghost use Rattle.region_words.specs.Standings.{words_of, first_of};
+ghost use Rattle.region_words.specs.Standings.{words_of, first_of, tail_of};
 ghost use Rattle.region_words.specs.Share.{Stops};
 ghost use Rattle.region_words.specs.Making.{next_of, IsOwingFirst, MakesFirst};
 
@@ -86,6 +86,13 @@ impl PayloadWords {
             Err(unstored) => Err(unstored.stop),
         }
     }
+}
+
+/// The word in which the byte behind these would stand, with zeros from there on.
+pub fn tail_word(bytes: &[u8]) -> u32
+    ensures { result ≡ tail_of bytes.now (length bytes.now) }
+{
+    word_from(bytes, bytes.len() / 4 * 4)
 }
 
 // The word that begins with this byte, zeros in the place of bytes that are missing.
