@@ -1,13 +1,7 @@
-// A library with one function.
+//! The stores that write the pairs of a map anew, made one by one over any share.
 #![tactic(auto)]
 
-ghost use Rattle.std.specs.Prelude.{◌≡◌};
-ghost use Rattle.write_back.specs.Echo.{echo_of};
+mod parts;
+mod rewriting;
 
-// The `ensures` clause is the contract: what `echo` returns is `echo_of` of its argument, a definition
-// in `specs/Echo.antt`, which a caller's clause can cite too.
-pub fn echo(x: usize) -> usize
-    ensures { result ≡ echo_of x }
-{
-    x
-}
+pub use rewriting::{RewriteStop, Rewriting};
