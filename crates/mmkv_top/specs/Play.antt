@@ -11,7 +11,7 @@ use Rattle.change_log.specs.declared.call.Answer.{Answer}
 use Rattle.change_log.specs.declared.change.Change.{Change}
 use Rattle.script_lang.specs.declared.line.Line.{Line}
 use Rattle.script_lang.specs.declared.line.Line.TheVariants.{Open, Begin, Step}
-use Rattle.script_lang.specs.declared.line.Strategy.TheVariants.{Leave}
+use Rattle.handlers.specs.declared.handler.Strategy.TheVariants.{Leave}
 use Rattle.script_lang.specs.declared.outcome.Outcome.{Outcome}
 use Rattle.script_lang.specs.declared.outcome.Outcome.TheVariants.{Answered, Stopped}
 use Rattle.script_lang.specs.declared.outcome.Reason.TheVariants.{ExpiryOff}

@@ -7,7 +7,8 @@ ghost use Rattle.mmkv_top.specs.Answers.{answer_to};
 use crate::mode::Mode;
 use change_log::{Act, Answer, Call, Change, Reply};
 use expiring_map::{Bytes, ExpiringMap, Memory, Pair};
-use script_lang::{Line, Outcome, Reason, Strategy};
+use handlers::Strategy;
+use script_lang::{Line, Outcome, Reason};
 use std::alloc::Global;
 use std::mem;
 

@@ -13,8 +13,8 @@ use Rattle.wire_values.specs.declared.value.Value.TheVariants as value
 use Rattle.wire_values.specs.Values.{kind_of}
 use Rattle.script_lang.specs.declared.line.Line.{Line}
 use Rattle.script_lang.specs.declared.line.Line.TheVariants.{Open, Begin, Step, Die, Next}
-use Rattle.script_lang.specs.declared.line.Strategy.{Strategy}
-use Rattle.script_lang.specs.declared.line.Strategy.TheVariants.{Discard, Recover, Leave}
+use Rattle.handlers.specs.declared.handler.Strategy.{Strategy}
+use Rattle.handlers.specs.declared.handler.Strategy.TheVariants.{Discard, Recover, Leave}
 use Rattle.script_lang.specs.Lines.{IsNumber, IsValueWord, IsPut, IsCall, IsCallLine, IsLineOf, IsLine, kind_word, strategy_word}
 use Rattle.script_lang.specs.Splitting.{words_of}
 use Rattle.script_lang.proofs.Numerals.{mag_of_32, mag_of_64}

@@ -5,8 +5,8 @@ use Rattle.std.proofs.lemmas.Fmt.{decimal_injective}
 use Rattle.change_log.specs.declared.call.Call.{Call}
 use Rattle.script_lang.specs.declared.line.Line.{Line}
 use Rattle.script_lang.specs.declared.line.Line.TheVariants.{Open, Begin, Step, Die, Next}
-use Rattle.script_lang.specs.declared.line.Strategy.{Strategy}
-use Rattle.script_lang.specs.declared.line.Strategy.TheVariants.{Discard, Recover, Leave}
+use Rattle.handlers.specs.declared.handler.Strategy.{Strategy}
+use Rattle.handlers.specs.declared.handler.Strategy.TheVariants.{Discard, Recover, Leave}
 use Rattle.script_lang.specs.Lines.{IsNumber, IsBits, IsLineOf, strategy_word}
 use Rattle.script_lang.specs.Splitting.{words_of, AreNumbers, IsTimedCall}
 use Rattle.script_lang.proofs.Cutting.{apart, words_of-one, one_word, no_words, unspaced}

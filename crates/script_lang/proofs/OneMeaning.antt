@@ -21,8 +21,8 @@ use Rattle.wire_values.specs.Values.{kind_of}
 use Rattle.wire_values.specs.Spelling.{spelling_of}
 use Rattle.script_lang.specs.declared.line.Line.{Line}
 use Rattle.script_lang.specs.declared.line.Line.TheVariants.{Open, Begin, Step, Die, Next}
-use Rattle.script_lang.specs.declared.line.Strategy.{Strategy}
-use Rattle.script_lang.specs.declared.line.Strategy.TheVariants.{Discard, Recover, Leave}
+use Rattle.handlers.specs.declared.handler.Strategy.{Strategy}
+use Rattle.handlers.specs.declared.handler.Strategy.TheVariants.{Discard, Recover, Leave}
 use Rattle.script_lang.specs.Lines.{IsNumber, IsHex, IsBits, IsValueWord, IsPut, IsCall, IsLineOf, IsLine, NamesOneThing, kind_word, strategy_word}
 use Rattle.script_lang.specs.Texts.{spaced}
 use Rattle.script_lang.specs.Splitting.{words_of}

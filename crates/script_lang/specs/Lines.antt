@@ -13,8 +13,8 @@ use Rattle.wire_values.specs.Values.{kind_of}
 use Rattle.wire_values.specs.Spelling.{spelling_of}
 use Rattle.script_lang.specs.declared.line.Line.{Line}
 use Rattle.script_lang.specs.declared.line.Line.TheVariants.{Open, Begin, Step, Die, Next}
-use Rattle.script_lang.specs.declared.line.Strategy.{Strategy}
-use Rattle.script_lang.specs.declared.line.Strategy.TheVariants.{Discard, Recover, Leave}
+use Rattle.handlers.specs.declared.handler.Strategy.{Strategy}
+use Rattle.handlers.specs.declared.handler.Strategy.TheVariants.{Discard, Recover, Leave}
 use Rattle.script_lang.specs.Texts.{spaced}
 
 -- a number of 32 bits: decimal digits without a sign or a needless zero

@@ -4,9 +4,10 @@ ghost use Rattle.script_lang.specs.Lines.{IsLine, IsLineOf, strategy_word};
 ghost use Rattle.script_lang.specs.Splitting.{Reads, words_of, AreNumbers};
 
 use crate::call_words::{cut, timed_call};
-use crate::line::{Line, Strategy};
+use crate::line::Line;
 use crate::value_words::{bits, number};
 use expiring_map::Memory;
+use handlers::Strategy;
 use std::alloc::Global;
 use thiserror::Error;
 

@@ -21,7 +21,7 @@ pub use changes::changes_text;
 pub use grammar::{LineStop, read_line};
 pub use input::{LARGEST_SCRIPT, ScriptStop, read_script};
 pub use laws::a_line_names_one_thing;
-pub use line::{Line, Strategy};
+pub use line::Line;
 pub use outcome::{Outcome, Reason};
 pub use output::{WriteFault, write_all};
 pub use region::{region_text, shown_region_text};

@@ -1,13 +1,6 @@
 // The lines of a script.
 use change_log::Call;
-
-/// What a handler does about damage.
-#[derive(Clone, Copy, Debug, PartialEq, Eq)]
-pub enum Strategy {
-    Discard,
-    Recover,
-    Leave,
-}
+use handlers::Strategy;
 
 /// What a line of a script names.
 #[derive(Drop)]
