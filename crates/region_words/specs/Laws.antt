@@ -1,20 +1,25 @@
 -- The laws of a region that several openers change.
-use Rattle.std.specs.Prelude.{◌≡◌, ℕ, ◌+◌, ◌≤◌, List, ◌∷◌, ◌++◌, Option, Some, None, true}
+use Rattle.std.specs.Prelude.{◌≡◌, ℕ, ◌+◌, ◌≤◌, List, ◌∷◌, ◌++◌, Option, Some, None, true, length, ◌==◌, if◌then◌else◌}
 use Rattle.std.specs.List.{AllByRecursion}
 use Rattle.crc_words.specs.Crc.{crc_from}
 use Rattle.expiring_map.specs.Map.{Map}
-use Rattle.change_log.specs.Acts.{replay, is_append}
+use Rattle.change_log.specs.Acts.{applied, replay, is_append}
 use Rattle.change_log.specs.declared.change.Act.{Act}
+use Rattle.change_log.specs.declared.change.Act.TheVariants as act
 use Rattle.change_log.specs.declared.change.Change.{Change}
 use Rattle.lock_rules.specs.Locks.{holds}
 use Rattle.meta_record.specs.declared.shown.Shown.TheVariants.{Whole, Last}
-use Rattle.region_words.specs.Region.{Region, IsRegion, IsAccepted, record_of, payload_of, file_size, shown, map_shown, ShowsMap}
-use Rattle.region_words.specs.Past.{region_after, changes_of, locks_after, NoneOf}
-use Rattle.region_words.specs.Rows.{Append, Restore, Row, MayBegin}
+use Rattle.region_words.specs.Region.{Region, IsRegion, IsAccepted, record_of, flag, payload_of, file_size, shown, map_shown, ShowsMap}
+use Rattle.region_words.specs.Past.{region_after, after_all, changes_of, locks_after, NoneOf}
+use Rattle.region_words.specs.Rows.{Append, Pack, Clear, Restore, Row, MayBegin, HasRoom, IsAppendable, AreBytes, append_stores, events_of, item_of, payload_after, size_after, standing}
+use Rattle.region_words.specs.Standings.{standing_of, IsStandingOf}
 use Rattle.region_words.specs.Apart.{Apart}
 use Rattle.region_words.specs.Lawful.{Lawful, Phase, Between, Within, Reaches, MayTear, map_after}
 use Rattle.region_words.specs.Outcome.{AtRest, ShowsHistory, confirmed, HasConfirmed}
 use Rattle.region_words.specs.Images.{image_of, IsKept, SameImage, LoadsOn, bytes_behind, sequence_at, checksum_at}
+use Rattle.region_words.specs.Making.{write_back_by, appended_standing, rewritten_standing, IsWriteBack}
+use Rattle.region_words.specs.declared.standing.Standing.{Standing}
+use Rattle.region_words.specs.declared.event.Mark.TheVariants.{Commit}
 use Rattle.region_words.specs.declared.event.TornWord.{TornWord}
 use Rattle.region_words.specs.declared.event.What.TheVariants.{Died}
 use Rattle.region_words.specs.declared.event.Event.{Event}
@@ -140,3 +145,38 @@ WholeImagesGoOn =
     IsKept start past n m → sequence_at start (later ++ past) ≡ sequence_at start past →
     shown (region_after start (later ++ past)) ≡ Whole size →
     ((record_of (region_after start (later ++ past))).size ≡ size) × GoesOn start past n (region_after start (later ++ past))
+
+-- The events of an append are worked out from what is known of the image, even if the file has grown meanwhile.
+abbrev pub AppendIsMadeFromItsStanding : Type 0
+AppendIsMadeFromItsStanding =
+    (r : Region) (s : Standing) (m : Map) (who : ℕ) (a : Act) → shown r ≡ Whole s.size → IsStandingOf r s.size s →
+    events_of r m who (Append a) ≡ append_stores s (item_of s.flag a) (Commit (record { maker = who; act = a }))
+
+-- The events of a Pack are worked out from all that is known of the image and from the map that it leaves,
+abbrev pub PackIsMadeFromItsStanding : Type 0
+PackIsMadeFromItsStanding =
+    (r : Region) (s : Standing) (m : Map) (who now need : ℕ) → s ≡ standing r →
+    events_of r m who (Pack now need) ≡ write_back_by s (applied m (act.Pack now)) need (Commit (record { maker = who; act = act.Pack now }))
+
+-- and those of a Clear likewise.
+abbrev pub ClearIsMadeFromItsStanding : Type 0
+ClearIsMadeFromItsStanding =
+    (r : Region) (s : Standing) (m : Map) (who : ℕ) → s ≡ standing r →
+    events_of r m who Clear ≡ write_back_by s (applied m act.Clear) 0 (Commit (record { maker = who; act = act.Clear }))
+
+-- After an append to a whole image the longer image is known by the old standing and the item.
+abbrev pub AppendLeavesItsStanding : Type 0
+AppendLeavesItsStanding =
+    (r : Region) (m : Map) (who n : ℕ) (a : Act) → IsRegion r → shown r ≡ Whole n → HasRoom r n (length (item_of (flag r) a)) → IsAppendable (flag r) a →
+    let t = after_all r (events_of r m who (Append a)) in
+    let size = n + length (item_of (flag r) a) in
+    ((record_of t).size ≡ size) × (standing_of t size ≡ appended_standing (standing r) (item_of (flag r) a))
+
+-- After a write-back of bytes the new image is known by the old standing, the size of the file, and the new payload.
+abbrev pub WriteBackLeavesItsStanding : Type 0
+WriteBackLeavesItsStanding =
+    (r : Region) (m : Map) (room : Option ℕ) (who : ℕ) (row : Row) → IsRegion r → IsWriteBack row → MayBegin r m room row → AreBytes (payload_after r m row) →
+    let new = payload_after r m row in
+    let t = after_all r (events_of r m who row) in
+    ((record_of t).size ≡ length new)
+    × (standing_of t (length new) ≡ rewritten_standing (standing r) (if (record_of r).version == 0 then 3 else (record_of r).version) (flag r) (size_after r m row) new)

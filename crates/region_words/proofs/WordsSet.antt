@@ -1,0 +1,49 @@
+-- Words that are stored in a file one after another: what is read afterwards.
+use Rattle.std.proofs.Common.{◌≡◌, ◌≢◌, ℕ, ◌+◌, ◌*◌, ◌^◌, ◌<◌, ◌≤◌, Bool, true, false, cond, List, [], ◌∷◌, length, refl, sym, ap, ◌∙◌, arith, subst}
+use Rattle.std.specs.Prelude.{◌==◌, if◌then◌else◌}
+use Rattle.std.proofs.lemmas.Bool.Decides.{nat_tests}
+use Rattle.meta_record.specs.Words.{word_at, with_word}
+use Rattle.meta_record.proofs.WordLemmas.{length-with_word, same_word, other_word}
+
+-- a word and its value
+pub record Setting : Type 0 where
+  pub word : ℕ
+  pub value : ℕ
+
+abbrev pub set_to : ℕ → ℕ → Setting
+set_to w v = record { word = w; value = v }
+
+-- the file after these words are stored, the first of them first
+abbrev pub set_all : List ℕ → List Setting → List ℕ
+set_all file [] = file
+set_all file (s ∷ rest) = set_all (with_word file s.word s.value) rest
+
+-- what then stands in a word that held this value
+abbrev pub last_set : ℕ → ℕ → List Setting → ℕ
+last_set w value [] = value
+last_set w value (s ∷ rest) = last_set w (if s.word == w then s.value else value) rest
+
+-- they are words of a file of so many bytes
+abbrev pub AreWords : ℕ → List Setting → Type 0
+AreWords size [] = Unit {0}
+AreWords size (s ∷ rest) = (4 * s.word + 4 ≤ size) × (s.value < 2 ^ 32) × AreWords size rest
+
+pub length-set_all : (size : ℕ) (file : List ℕ) (stores : List Setting) → length file ≡ size → AreWords size stores → length (set_all file stores) ≡ size
+length-set_all size file [] e a = e
+length-set_all size file (s ∷ rest) e a =
+    length-set_all size (with_word file s.word s.value) rest (length-with_word file s.word s.value (omega (arith, e, a.0)) ∙ e) a.2
+
+read_one : (file : List ℕ) (x v w : ℕ) → 4 * x + 4 ≤ length file → v < 2 ^ 32 → word_at (with_word file x v) w ≡ (if x == w then v else word_at file w)
+read_one file x v w inside small = go (x == w) refl
+  where
+    go : (b : Bool) → (x == w) ≡ b → word_at (with_word file x v) w ≡ cond b v (word_at file w)
+    go true e = let same : x ≡ w = grind (arith, nat_tests) in ap (word_at (with_word file x v)) (sym same) ∙ same_word file x v inside small
+    go false e = let other : w ≢ x = grind (arith, nat_tests) in other_word file x v inside w other
+
+-- the last value that was stored in a word is read
+pub word-set_all : (size : ℕ) (file : List ℕ) (stores : List Setting) → length file ≡ size → AreWords size stores → (w : ℕ) →
+    word_at (set_all file stores) w ≡ last_set w (word_at file w) stores
+word-set_all size file [] e a w = refl
+word-set_all size file (s ∷ rest) e a w =
+    word-set_all size (with_word file s.word s.value) rest (length-with_word file s.word s.value (omega (arith, e, a.0)) ∙ e) a.2 w
+    ∙ ap (λ v. last_set w v rest) (read_one file s.word s.value w (omega (arith, e, a.0)) a.1)

@@ -1,0 +1,9 @@
+use Rattle.region_words.proofs.LeftStanding.{append_leaves}
+use Rattle.region_words.proofs.Rewritten.{write_back_leaves}
+use Rattle.region_words.proofs.laws.a_row_leaves_its_standing.Goals as goal
+
+pub returns-clause-append : goal.returns-clause-append
+returns-clause-append c = λ r m who n a is whole room may. append_leaves r m who n a is whole room may
+
+pub returns-clause-write_back : goal.returns-clause-write_back
+returns-clause-write_back c = λ r m room who row is w may bytes. write_back_leaves r m room who row is w may bytes
