@@ -1,8 +1,10 @@
 -- The laws of a region that several openers change.
-use Rattle.std.specs.Prelude.{◌≡◌, ℕ, ◌+◌, ◌≤◌, List, ◌∷◌, ◌++◌, Option, Some, None, true, length, ◌==◌, if◌then◌else◌}
+use Rattle.std.specs.Prelude.{◌≡◌, ℕ, ◌+◌, ◌≤◌, Bool, List, ◌∷◌, ◌++◌, Option, Some, None, true, length, ◌==◌, if◌then◌else◌}
 use Rattle.std.specs.List.{AllByRecursion}
 use Rattle.crc_words.specs.Crc.{crc_from}
 use Rattle.expiring_map.specs.Map.{Map}
+use Rattle.kv_pairs.specs.Growth.{largest}
+use Rattle.kv_pairs.specs.Mapped.{IsPackable}
 use Rattle.change_log.specs.Acts.{applied, replay, is_append}
 use Rattle.change_log.specs.declared.change.Act.{Act}
 use Rattle.change_log.specs.declared.change.Act.TheVariants as act
@@ -180,3 +182,16 @@ WriteBackLeavesItsStanding =
     let t = after_all r (events_of r m who row) in
     ((record_of t).size ≡ length new)
     × (standing_of t (length new) ≡ rewritten_standing (standing r) (if (record_of r).version == 0 then 3 else (record_of r).version) (flag r) (size_after r m row) new)
+
+-- The payload of a write-back is bytes where the map's pairs can be packed and read again,
+abbrev pub PayloadsAreBytes : Type 0
+PayloadsAreBytes = (r : Region) (m : Map) (row : Row) → IsWriteBack row → IsPackable (flag r) m → AreBytes (payload_after r m row)
+
+-- as they can in the map that a region shows,
+abbrev pub ShownMapsCanBePacked : Type 0
+ShownMapsCanBePacked = (r : Region) (m : Map) → IsRegion r → map_shown r ≡ Some m → IsPackable (flag r) m
+
+-- and in what a put or remove leaves of such a map, if a file has room for its item.
+abbrev pub AppendsCanBePacked : Type 0
+AppendsCanBePacked =
+    (flag : Bool) (m : Map) (a : Act) → IsAppendable flag a → length (item_of flag a) ≤ largest → IsPackable flag m → IsPackable flag (applied m a)

@@ -2,6 +2,7 @@
 ghost use Rattle.region_words.specs.Laws.{FrontsAreLawful, FrontsAreApart, StaysARegion, StaysAccepted, RestsWhereFree, HoldersSeeOneRegion};
 ghost use Rattle.region_words.specs.Laws.{ShowsHistoryAtRest, ShowsHistoryWhereFree, ShowsHistoryAfterACutAppend, LastIsConfirmed, LastHasTheHistory, LastIsRestored};
 ghost use Rattle.region_words.specs.Laws.{AppendIsMadeFromItsStanding, PackIsMadeFromItsStanding, ClearIsMadeFromItsStanding};
+ghost use Rattle.region_words.specs.Laws.{PayloadsAreBytes, ShownMapsCanBePacked, AppendsCanBePacked};
 ghost use Rattle.region_words.specs.Laws.{AppendLeavesItsStanding, WriteBackLeavesItsStanding};
 ghost use Rattle.region_words.specs.Laws.{SequenceTellsTheImage, PeeksTellTheImage, PartialLoadsHold, WholeImagesGoOn};
 
@@ -74,4 +75,12 @@ pub fn a_row_is_made_from_its_standing()
 pub fn a_row_leaves_its_standing()
     ensures append { AppendLeavesItsStanding }
     ensures write_back { WriteBackLeavesItsStanding }
+{}
+
+/// The payload of a write-back is bytes where the map's pairs can be packed and read again, as they can in the map that a
+/// region shows, and in what a put or remove leaves of such a map.
+pub fn what_is_written_back_is_bytes()
+    ensures bytes { PayloadsAreBytes }
+    ensures shown { ShownMapsCanBePacked }
+    ensures appended { AppendsCanBePacked }
 {}
