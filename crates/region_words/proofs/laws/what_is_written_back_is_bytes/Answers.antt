@@ -1,3 +1,4 @@
+use Rattle.region_words.proofs.OwedRows.{owes_row}
 use Rattle.region_words.proofs.PackedBytes.{write_back_bytes, shown_packs, appended_packs}
 use Rattle.region_words.proofs.laws.what_is_written_back_is_bytes.Goals as goal
 

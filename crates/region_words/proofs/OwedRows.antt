@@ -1,0 +1,222 @@
+-- A row that may begin is owed, and its events may be stored.
+use Rattle.std.proofs.Common.{◌≡◌, ◌≢◌, ℕ, zero, suc, ◌+◌, ◌-◌, ◌*◌, ◌/◌, ◌%◌, ◌^◌, ◌<◌, ◌≤◌, Bool, true, false, cond, List, [], ◌∷◌, ◌++◌, length, take, refl, sym, ap, ◌∙◌, arith, subst, length-append, length-take}
+use Rattle.std.specs.Prelude.{Option, Some, None, All, IsOk, Result, Ok, Err, nat_lt, max, unwrap_or, replicate, ◌&&◌, ◌||◌, ◌==◌, if◌then◌else◌}
+use Rattle.std.specs.Int.{to_le_bytes, w32}
+use Rattle.std.proofs.lemmas.Bool.Decides.{nat_tests}
+use Rattle.std.proofs.lemmas.List.{get_or_append_left, length-replicate}
+use Rattle.crc_words.specs.Crc.{crc, crc_from}
+use Rattle.crc_words.proofs.Bounds.{crc_below}
+use Rattle.crc_words.proofs.Continued.{continued_is}
+use Rattle.expiring_map.specs.Map.{Map}
+use Rattle.kv_pairs.specs.Growth.{largest}
+use Rattle.change_log.specs.declared.change.Act.{Act}
+use Rattle.change_log.specs.declared.change.Change.{Change}
+use Rattle.meta_record.specs.Words.{word_at, with_word, grown_to}
+use Rattle.meta_record.specs.Records.{record_at, checked, is_fresh}
+use Rattle.meta_record.specs.declared.record.Record.{Record}
+use Rattle.meta_record.specs.declared.record.RecordFault.{RecordFault}
+use Rattle.meta_record.specs.declared.record.RecordFault.TheVariants.{Version, Flags}
+use Rattle.meta_record.proofs.WordLemmas.{length-with_word, same_word, other_word}
+use Rattle.region_words.specs.Region.{Region, IsRegion, IsAccepted, region_of, record_of, flag, file_size, payload_of}
+use Rattle.region_words.specs.Past.{region_after, region_step}
+use Rattle.region_words.specs.Rows.{Row, Append, Pack, Clear, Enable, Disable, Restore, Discard, Recover, SizeRepair, MayBegin, IsAppendable, AreBytes, events_of, item_of, append_stores, write_back_stores, stores_from, store_data, store_meta, payload_stores, close_sizes, confirmed_by_checksum, confirmed_by_header, size_after, payload_after, mark_of}
+use Rattle.region_words.specs.Standings.{words_of, tail_bytes, standing_of}
+use Rattle.region_words.specs.Apart.{Apart}
+use Rattle.region_words.specs.Lawful.{Between, Reaches, IsMarkOf, map_after}
+use Rattle.region_words.specs.Told.{History}
+use Rattle.region_words.specs.Share.{ShareState, Agrees}
+use Rattle.region_words.specs.Owing.{AreStorable, Comes, Owes}
+use Rattle.region_words.specs.declared.standing.Standing.{Standing}
+use Rattle.region_words.specs.declared.event.Side.TheVariants.{Data, Meta}
+use Rattle.region_words.specs.declared.event.Mark.{Mark}
+use Rattle.region_words.specs.declared.event.Mark.TheVariants.{Plain, Commit}
+use Rattle.region_words.specs.declared.event.What.{What}
+use Rattle.region_words.specs.declared.event.What.TheVariants.{Store, Grow, Lock, Unlock, Died}
+use Rattle.region_words.specs.declared.event.Event.{Event}
+use Rattle.region_words.proofs.WordStores.{Small, Small-take, length-words_of}
+use Rattle.region_words.proofs.Regions.{Small-from_All, joined_bytes, word_bytes}
+use Rattle.region_words.proofs.RowsStand.{item_bytes}
+
+not_nil : (xs : List What) (y : What) (ys : List What) → xs ++ y ∷ ys ≡ [] → ⊥
+not_nil [] y ys e = absurd cc
+not_nil (x ∷ xs) y ys e = absurd cc
+
+write_back_some : (b c : Bool) (w : ℕ) (y : What) (zs ps cs : List What) → (cond b (Grow w ∷ []) [] ++ y ∷ cond c zs [] ++ ps ++ cs) ≡ [] → ⊥
+write_back_some true c w y zs ps cs e = absurd cc
+write_back_some false c w y zs ps cs e = absurd cc
+
+switch_some : (b : Bool) (w : ℕ) (y z : What) (ps cs : List What) → (cond b (Grow w ∷ []) [] ++ y ∷ z ∷ close_sizes ++ ps ++ cs) ≡ [] → ⊥
+switch_some true w y z ps cs e = absurd cc
+switch_some false w y z ps cs e = absurd cc
+
+-- each row has an event
+some_event : (r : Region) (m : Map) (who : ℕ) (row : Row) → events_of r m who row ≡ [] → ⊥
+unfolding events_of
+some_event r m who (Append a) e = not_nil _ _ _ e
+some_event r m who (Pack now need) e =
+    let row = Pack now need in
+    let wanted = unwrap_or (size_after r m row) 0 in
+    write_back_some (nat_lt (file_size r) wanted) ((record_of r).version == 0) wanted (store_meta 2 ((record_of r).sequence + 1)) (store_meta 1 3 ∷ []) (payload_stores (payload_after r m row)) (confirmed_by_checksum (payload_after r m row) (mark_of r who row)) e
+some_event r m who Clear e =
+    let wanted = unwrap_or (size_after r m Clear) 0 in
+    write_back_some (nat_lt (file_size r) wanted) ((record_of r).version == 0) wanted (store_meta 2 ((record_of r).sequence + 1)) (store_meta 1 3 ∷ []) (payload_stores (payload_after r m Clear)) (confirmed_by_checksum (payload_after r m Clear) (mark_of r who Clear)) e
+some_event r m who (Enable now seconds) e =
+    let row = Enable now seconds in
+    let wanted = unwrap_or (size_after r m row) 0 in
+    switch_some (nat_lt (file_size r) wanted) wanted (store_meta 2 ((record_of r).sequence + 1)) (store_meta 1 4) (payload_stores (payload_after r m row)) (store_meta 26 1 ∷ confirmed_by_header (payload_after r m row) (mark_of r who row)) e
+some_event r m who (Disable now) e =
+    let row = Disable now in
+    let wanted = unwrap_or (size_after r m row) 0 in
+    switch_some (nat_lt (file_size r) wanted) wanted (store_meta 2 ((record_of r).sequence + 1)) (store_meta 1 4) (payload_stores (payload_after r m row)) (store_meta 26 0 ∷ confirmed_by_header (payload_after r m row) (mark_of r who row)) e
+some_event r m who Restore e = absurd cc
+some_event r m who Discard e = absurd cc
+some_event r m who Recover e = absurd cc
+some_event r m who SizeRepair e = absurd cc
+
+-- no row is under way, this one may begin, and these are its events
+pub record MayBeginNow (row : Row) (events : List What) (start : Region) (past : List Event) (who : ℕ) : Type 0 where
+  pub room : Option ℕ
+  pub reached : Reaches start past (Between room)
+  pub may : MayBegin (region_after start past) (map_after start past) room row
+  pub are : events ≡ events_of (region_after start past) (map_after start past) who row
+
+begun : (row : Row) (events : List What) (start : Region) (past : List Event) (who : ℕ) → MayBeginNow row events start past who → Comes start past who row events
+begun row [] start past who b = absurd (some_event (region_after start past) (map_after start past) who row (sym b.are))
+begun row (what ∷ rest) start past who b = record { phase = Between b.room; reached = b.reached; next = (b.may, b.are) }
+
+-- a row that may begin is owed
+pub owes_row : (row : Row) (events : List What) (s : ShareState) (h : History) → Agrees s h → AreStorable (region_after h.start h.past) s.who events →
+    (Apart h.start h.past → MayBeginNow row events h.start h.past s.who) → Owes row events s h
+owes_row row events s h agrees storable begins =
+    record { agrees = agrees; storable = storable; coming = λ apart. begun row events h.start h.past s.who (begins apart) }
+
+-- what is accepted by its version alone is so again
+accepted_on : (f g known high : Bool) (e e' k k' : RecordFault) → f ≡ false → IsOk {T = Unit {0}} (cond (f || known) (cond high (Err e) (Ok tt)) (Err k)) →
+    IsOk {T = Unit {0}} (cond (g || known) (cond high (Err e') (Ok tt)) (Err k'))
+accepted_on true g known high e e' k k' a b = absurd cc
+accepted_on false g true true e e' k k' a b = absurd cc
+accepted_on false true true false e e' k k' a b = refl
+accepted_on false false true false e e' k k' a b = refl
+accepted_on false g false high e e' k k' a b = absurd cc
+
+-- a header that isn't 0, or a version that isn't, is no fresh store's
+not_fresh : (rec : Record) (h : ℕ) → rec.version ≢ 0 → is_fresh rec h ≡ false
+not_fresh rec h n = go (rec.version == 0) refl
+  where
+    go : (b : Bool) → (rec.version == 0) ≡ b → (b && ((h == 0) && ((rec.checksum == 0) && ((rec.size == 0) && (rec.flags == 0))))) ≡ false
+    go true e = absurd (n (grind (arith, nat_tests)))
+    go false e = refl
+
+-- an accepted record has a version where the header isn't 0
+has_version : (rec : Record) (h : ℕ) → h ≢ 0 → IsOk (checked rec h) → rec.version ≢ 0
+has_version rec h n ok e = go (h == 0) refl (subst (λ v. IsOk {T = Unit {0}} (cond (((v == 0) && ((h == 0) && ((rec.checksum == 0) && ((rec.size == 0) && (rec.flags == 0))))) || ((v == 3) || (v == 4))) (cond (nat_lt 1 rec.flags) (Err (Flags rec.flags)) (Ok tt)) (Err (Version v)))) e ok)
+  where
+    go : (b : Bool) → (h == 0) ≡ b → IsOk {T = Unit {0}} (cond ((b && ((rec.checksum == 0) && ((rec.size == 0) && (rec.flags == 0)))) || false) (cond (nat_lt 1 rec.flags) (Err (Flags rec.flags)) (Ok tt)) (Err (Version 0))) → ⊥
+    go true z o = n (grind (arith, nat_tests))
+    go false z o = absurd cc
+
+-- a record with the same version and flags is accepted again
+pub same_version : (old new : Record) (h k : ℕ) → new.version ≡ old.version → new.flags ≡ old.flags → old.version ≢ 0 → IsOk (checked old h) → IsOk (checked new k)
+same_version old new h k v f n ok =
+    let known : Bool = (old.version == 3) || (old.version == 4) in
+    let again = accepted_on (is_fresh old h) (is_fresh new k) ((old.version == 3) || (old.version == 4)) (nat_lt 1 old.flags) (Flags old.flags) (Flags new.flags) (Version old.version) (Version new.version) (not_fresh old h n) ok in
+    subst (λ x. IsOk {T = Unit {0}} (cond (is_fresh new k || ((x == 3) || (x == 4))) (cond (nat_lt 1 new.flags) (Err (Flags new.flags)) (Ok tt)) (Err (Version new.version)))) (sym v)
+    (subst (λ x. IsOk {T = Unit {0}} (cond (is_fresh new k || ((old.version == 3) || (old.version == 4))) (cond (nat_lt 1 x) (Err (Flags new.flags)) (Ok tt)) (Err (Version new.version)))) (sym f) again)
+
+-- and with version 3
+third : (old new : Record) (h k : ℕ) → new.version ≡ 3 → new.flags ≡ old.flags → IsOk (checked old h) → IsOk (checked new k)
+third old new h k v f ok =
+    subst (λ x. IsOk {T = Unit {0}} (cond (is_fresh new k || ((x == 3) || (x == 4))) (cond (nat_lt 1 new.flags) (Err (Flags new.flags)) (Ok tt)) (Err (Version new.version)))) (sym v)
+    (subst (λ x. IsOk {T = Unit {0}} (cond (is_fresh new k || true) (cond (nat_lt 1 x) (Err (Flags new.flags)) (Ok tt)) (Err (Version new.version)))) (sym f)
+    (go (is_fresh old h || ((old.version == 3) || (old.version == 4))) (nat_lt 1 old.flags) (is_fresh new k) ok))
+  where
+    go : (a b c : Bool) → IsOk {T = Unit {0}} (cond a (cond b (Err (Flags old.flags)) (Ok tt)) (Err (Version old.version))) → IsOk {T = Unit {0}} (cond (c || true) (cond b (Err (Flags new.flags)) (Ok tt)) (Err (Version new.version)))
+    go true false true o = refl
+    go true false false o = refl
+    go true true c o = absurd cc
+    go false b c o = absurd cc
+
+-- words, one after another
+abbrev pub SmallWords : List ℕ → Type 0
+SmallWords [] = Unit {0}
+SmallWords (v ∷ vs) = (v < 2 ^ 32) × SmallWords vs
+
+pub small_words : (bytes : List ℕ) → Small bytes → SmallWords (words_of bytes)
+small_words [] s = tt
+small_words (a ∷ []) s = (omega (arith, s.0), tt)
+small_words (a ∷ b ∷ []) s = (omega (arith, s.0, s.1.0), tt)
+small_words (a ∷ b ∷ c ∷ []) s = (omega (arith, s.0, s.1.0, s.1.1.0), tt)
+small_words (a ∷ b ∷ c ∷ d ∷ rest) s = (omega (arith, s.0, s.1.0, s.1.1.0, s.1.1.1.0), small_words rest s.1.1.1.1)
+
+-- a store in the meta file that leaves the version and the flags
+abbrev IsQuiet : ℕ → ℕ → What → Type 0
+IsQuiet size who (Store Data word value mark) = ⊥
+IsQuiet size who (Store Meta word value mark) = (4 * word + 4 ≤ size) × (value < 2 ^ 32) × IsMarkOf who mark × (word ≢ 1) × (word ≢ 26) × (word ≢ 27)
+IsQuiet size who (Grow n) = ⊥
+IsQuiet size who (Lock kind) = ⊥
+IsQuiet size who Unlock = ⊥
+IsQuiet size who (Died torn) = ⊥
+
+abbrev AreQuiet : ℕ → ℕ → List What → Type 0
+AreQuiet size who [] = Unit {0}
+AreQuiet size who (what ∷ rest) = IsQuiet size who what × AreQuiet size who rest
+
+-- what a quiet store leaves
+kept_flags : (meta : List ℕ) (word value : ℕ) → 4 * word + 4 ≤ length meta → word ≢ 26 → word ≢ 27 → (record_at (with_word meta word value)).flags ≡ (record_at meta).flags
+kept_flags meta word value inside n m =
+    λ i. other_word meta word value inside 26 (λ e. n (sym e)) i + 4294967296 * other_word meta word value inside 27 (λ e. m (sym e)) i
+
+-- quiet stores one after another, behind a header that isn't 0
+quiet_storable : (who : ℕ) (events : List What) (body meta : List ℕ) → word_at body 0 ≢ 0 → AreQuiet (length meta) who events → AreStorable (region_of body meta) who events
+quiet_storable who [] body meta n q = tt
+quiet_storable who (Store Data word value mark ∷ rest) body meta n q = absurd q.0
+quiet_storable who (Store Meta word value mark ∷ rest) body meta n q =
+    let inside = q.0.0 in (
+      (inside, q.0.1, (λ e. absurd (q.0.3 e)), q.0.2),
+      (λ ok.
+          same_version (record_at meta) (record_at (with_word meta word value)) (word_at body 0) (word_at body 0)
+          (other_word meta word value inside 1 (λ e. q.0.3 (sym e))) (kept_flags meta word value inside q.0.4 q.0.5) (has_version (record_at meta) (word_at body 0) n ok) ok),
+      quiet_storable who rest body (with_word meta word value) n (subst (λ k. AreQuiet k who rest) (sym (length-with_word meta word value inside)) q.1),
+    )
+quiet_storable who (Grow size ∷ rest) body meta n q = absurd q.0
+quiet_storable who (Lock kind ∷ rest) body meta n q = absurd q.0
+quiet_storable who (Unlock ∷ rest) body meta n q = absurd q.0
+quiet_storable who (Died torn ∷ rest) body meta n q = absurd q.0
+
+-- the words of a payload, its size, and quiet stores, where an accepted region has a version
+module _ (who size : ℕ) (tail : List What) (meta : List ℕ) (some : 0 < size) (most : size < 2 ^ 32) (quiet : AreQuiet (length meta) who tail) where
+  sized : (body : List ℕ) → 4 ≤ length body → (IsOk (checked (record_at meta) (word_at body 0)) → (record_at meta).version ≢ 0) → AreStorable (region_of body meta) who (store_data 0 size ∷ tail)
+  sized body inside firm = (
+    (omega (arith, inside), most, tt, tt),
+    (λ ok. same_version (record_at meta) (record_at meta) (word_at body 0) (word_at (with_word body 0 size) 0) refl refl (firm ok) ok),
+    quiet_storable who tail (with_word body 0 size) meta (let now = same_word body 0 size (omega (arith, inside)) most in λ e. absurd (omega (arith, now, e, some))) quiet,
+  )
+
+  pub payload_storable : (w : ℕ) (vs body : List ℕ) → 1 ≤ w → 4 * (w + length vs) ≤ length body → SmallWords vs →
+      (IsOk (checked (record_at meta) (word_at body 0)) → (record_at meta).version ≢ 0) → AreStorable (region_of body meta) who (stores_from w vs ++ store_data 0 size ∷ tail)
+  payload_storable w [] body first inside small firm = sized body (omega (arith, first, inside)) firm
+  payload_storable w (v ∷ vs) body first inside small firm =
+      let here : 4 * w + 4 ≤ length body = omega (arith, inside) in
+      let same = length-with_word body w v here in
+      let head : word_at (with_word body w v) 0 ≡ word_at body 0 = other_word body w v here 0 (omega (arith, first)) in (
+        (here, small.0, tt, tt),
+        (λ ok. subst (λ h. IsOk (checked (record_at meta) h)) (sym head) ok),
+        payload_storable (w + 1) vs (with_word body w v) (omega arith) (omega (arith, same, inside)) small.1 (λ ok. firm (subst (λ h. IsOk (checked (record_at meta) h)) head ok)),
+      )
+
+-- the events of an append may be stored
+pub append_storable : (r : Region) (who n : ℕ) (a : Act) (change : Change) → IsRegion r → IsAppendable (flag r) a → 4 + n + length (item_of (flag r) a) ≤ file_size r → 0 < n →
+    (IsAccepted r → (record_of r).version ≢ 0) → change.maker ≡ who → AreStorable r who (append_stores (standing_of r n) (item_of (flag r) a) (Commit change))
+append_storable r who n a change is may room some firm mine =
+    let item = item_of (flag r) a in
+    let s = standing_of r n in
+    let bytes = tail_bytes s ++ item in
+    let meta_size : 112 ≤ length r.meta_bytes = omega (arith, is.meta_file.pages, is.meta_file.not_empty) in
+    let small : Small bytes = joined_bytes (tail_bytes s) item (Small-take (n % 4) (to_le_bytes w32 s.tail) (word_bytes s.tail)) (item_bytes (flag r) a may) in
+    let tail_size : length (tail_bytes s) ≤ n % 4 = omega (arith, length-take (n % 4) (to_le_bytes w32 s.tail)) in
+    let size : n + length item < 2 ^ 32 = omega (arith, room, is.data_file.most) in
+    let sum : crc_from s.checksum item < 2 ^ 32 = subst (λ x. x < 2 ^ 32) (sym (continued_is (payload_of r n) item)) (crc_below (payload_of r n ++ item)) in
+    payload_storable who (n + length item) (Store Meta 0 (crc_from s.checksum item) (Commit change) ∷ store_meta 7 (n + length item) ∷ []) r.meta_bytes (omega (arith, some)) size
+    ((omega (arith, meta_size), sum, mine, omega arith, omega arith, omega arith), ((omega (arith, meta_size), size, tt, omega arith, omega arith, omega arith), tt))
+    (1 + n / 4) (words_of bytes) r.data_bytes (omega arith)
+    (omega (arith, length-words_of bytes, length-append (tail_bytes s) item, tail_size, room, is.data_file.pages)) (small_words bytes small) firm
