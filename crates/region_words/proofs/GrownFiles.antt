@@ -23,20 +23,20 @@ doubled_roomy (suc k) wanted needs size w n most pages = one (nat_lt wanted size
     one true e more = let high : wanted < size = grind (arith, nat_tests) in record { room = omega (arith, high, w); most = most; pages = pages }
     one false e more = two (nat_lt largest (2 * size)) refl more
 
--- the size of a file that grows to this one where it is smaller
-pub record IsGrownTo (needs file : ℕ) (size : Option ℕ) : Type 0 where
+-- a size was found, and it is such a one
+pub record IsFound (needs : ℕ) (size : Option ℕ) : Type 0 where
   pub wanted : ℕ
   pub is : size ≡ Some wanted
   pub roomy : IsRoomy needs wanted
 
 pub grown_roomy : (packed need pairs file : ℕ) → file ≤ largest → file % 4096 ≡ 0 → IsSome (grown_size packed need pairs file) →
-    IsGrownTo (4 + packed + need) file (grown_size packed need pairs file)
+    IsFound (4 + packed + need) (grown_size packed need pairs file)
 unfolding grown_size
 grown_roomy packed need pairs file most pages some = go (nat_lt largest (4 + packed + need)) refl some
   where
     go : (b : Bool) → nat_lt largest (4 + packed + need) ≡ b →
         IsSome (cond b None (Some (doubled 14 (4 + packed + need + spare (4 + packed + need) pairs) file))) →
-        IsGrownTo (4 + packed + need) file (cond b None (Some (doubled 14 (4 + packed + need + spare (4 + packed + need) pairs) file)))
+        IsFound (4 + packed + need) (cond b None (Some (doubled 14 (4 + packed + need + spare (4 + packed + need) pairs) file)))
     go true e h = absurd cc
     go false e h =
         record {

@@ -1,6 +1,6 @@
 -- A row that may begin is owed, and its events may be stored.
-use Rattle.std.proofs.Common.{◌≡◌, ◌≢◌, ℕ, zero, suc, ◌+◌, ◌-◌, ◌*◌, ◌/◌, ◌%◌, ◌^◌, ◌<◌, ◌≤◌, Bool, true, false, cond, List, [], ◌∷◌, ◌++◌, length, take, refl, sym, ap, ◌∙◌, arith, subst, length-append, length-take}
-use Rattle.std.specs.Prelude.{Option, Some, None, All, IsOk, Result, Ok, Err, nat_lt, max, unwrap_or, replicate, ◌&&◌, ◌||◌, ◌==◌, if◌then◌else◌}
+use Rattle.std.proofs.Common.{◌≡◌, ◌≢◌, ℕ, zero, suc, ◌+◌, ◌-◌, ◌*◌, ◌/◌, ◌%◌, ◌^◌, ◌<◌, ◌≤◌, Bool, true, false, cond, List, [], ◌∷◌, ◌++◌, length, take, refl, sym, ap, ◌∙◌, arith, subst, inl, length-append, length-take}
+use Rattle.std.specs.Prelude.{Option, Some, None, All, IsOk, Result, Ok, Err, nat_lt, max, unwrap_or, replicate, slice_index, ◌&&◌, ◌||◌, ◌==◌, if◌then◌else◌}
 use Rattle.std.specs.Int.{to_le_bytes, w32}
 use Rattle.std.proofs.lemmas.Bool.Decides.{nat_tests}
 use Rattle.std.proofs.lemmas.List.{get_or_append_left, length-replicate}
@@ -16,8 +16,9 @@ use Rattle.meta_record.specs.Records.{record_at, checked, is_fresh}
 use Rattle.meta_record.specs.declared.record.Record.{Record}
 use Rattle.meta_record.specs.declared.record.RecordFault.{RecordFault}
 use Rattle.meta_record.specs.declared.record.RecordFault.TheVariants.{Version, Flags}
+use Rattle.meta_record.specs.declared.shown.Shown.TheVariants.{Whole}
 use Rattle.meta_record.proofs.WordLemmas.{length-with_word, same_word, other_word}
-use Rattle.region_words.specs.Region.{Region, IsRegion, IsAccepted, region_of, record_of, flag, file_size, payload_of}
+use Rattle.region_words.specs.Region.{Region, IsRegion, IsAccepted, region_of, record_of, header, flag, file_size, payload_of, shown}
 use Rattle.region_words.specs.Past.{region_after, region_step}
 use Rattle.region_words.specs.Rows.{Row, Append, Pack, Clear, Enable, Disable, Restore, Discard, Recover, SizeRepair, MayBegin, IsAppendable, AreBytes, events_of, item_of, append_stores, write_back_stores, stores_from, store_data, store_meta, payload_stores, close_sizes, confirmed_by_checksum, confirmed_by_header, size_after, payload_after, mark_of}
 use Rattle.region_words.specs.Standings.{words_of, tail_bytes, standing_of}
@@ -34,8 +35,10 @@ use Rattle.region_words.specs.declared.event.What.{What}
 use Rattle.region_words.specs.declared.event.What.TheVariants.{Store, Grow, Lock, Unlock, Died}
 use Rattle.region_words.specs.declared.event.Event.{Event}
 use Rattle.region_words.proofs.WordStores.{Small, Small-take, length-words_of}
-use Rattle.region_words.proofs.Regions.{Small-from_All, joined_bytes, word_bytes}
+use Rattle.region_words.proofs.Regions.{Small-from_All, All-from_Small, joined_bytes, word_bytes}
+use Rattle.region_words.proofs.Shows.{whole_shown}
 use Rattle.region_words.proofs.RowsStand.{item_bytes}
+use Rattle.region_words.proofs.GrownFiles.{IsRoomy, IsFound}
 
 not_nil : (xs : List What) (y : What) (ys : List What) → xs ++ y ∷ ys ≡ [] → ⊥
 not_nil [] y ys e = absurd cc
@@ -204,19 +207,136 @@ module _ (who size : ℕ) (tail : List What) (meta : List ℕ) (some : 0 < size)
         payload_storable (w + 1) vs (with_word body w v) (omega arith) (omega (arith, same, inside)) small.1 (λ ok. firm (subst (λ h. IsOk (checked (record_at meta) h)) head ok)),
       )
 
--- the events of an append may be stored
-pub append_storable : (r : Region) (who n : ℕ) (a : Act) (change : Change) → IsRegion r → IsAppendable (flag r) a → 4 + n + length (item_of (flag r) a) ≤ file_size r → 0 < n →
-    (IsAccepted r → (record_of r).version ≢ 0) → change.maker ≡ who → AreStorable r who (append_stores (standing_of r n) (item_of (flag r) a) (Commit change))
-append_storable r who n a change is may room some firm mine =
-    let item = item_of (flag r) a in
-    let s = standing_of r n in
+-- the events of an append may be stored, whatever is known of the image, where its item fits behind it
+pub append_storable : (r : Region) (s : Standing) (item : List ℕ) (mark : Mark) (who : ℕ) → IsRegion r → AreBytes item → 4 + s.size + length item ≤ file_size r → 0 < s.size + length item →
+    crc_from s.checksum item < 2 ^ 32 → (IsAccepted r → (record_of r).version ≢ 0) → IsMarkOf who mark → AreStorable r who (append_stores s item mark)
+append_storable r s item mark who is may room some sum firm mine =
+    let size = s.size + length item in
     let bytes = tail_bytes s ++ item in
     let meta_size : 112 ≤ length r.meta_bytes = omega (arith, is.meta_file.pages, is.meta_file.not_empty) in
-    let small : Small bytes = joined_bytes (tail_bytes s) item (Small-take (n % 4) (to_le_bytes w32 s.tail) (word_bytes s.tail)) (item_bytes (flag r) a may) in
-    let tail_size : length (tail_bytes s) ≤ n % 4 = omega (arith, length-take (n % 4) (to_le_bytes w32 s.tail)) in
-    let size : n + length item < 2 ^ 32 = omega (arith, room, is.data_file.most) in
-    let sum : crc_from s.checksum item < 2 ^ 32 = subst (λ x. x < 2 ^ 32) (sym (continued_is (payload_of r n) item)) (crc_below (payload_of r n ++ item)) in
-    payload_storable who (n + length item) (Store Meta 0 (crc_from s.checksum item) (Commit change) ∷ store_meta 7 (n + length item) ∷ []) r.meta_bytes (omega (arith, some)) size
-    ((omega (arith, meta_size), sum, mine, omega arith, omega arith, omega arith), ((omega (arith, meta_size), size, tt, omega arith, omega arith, omega arith), tt))
-    (1 + n / 4) (words_of bytes) r.data_bytes (omega arith)
+    let small : Small bytes = joined_bytes (tail_bytes s) item (Small-take (s.size % 4) (to_le_bytes w32 s.tail) (word_bytes s.tail)) (Small-from_All item may) in
+    let tail_size : length (tail_bytes s) ≤ s.size % 4 = omega (arith, length-take (s.size % 4) (to_le_bytes w32 s.tail)) in
+    let most : size < 2 ^ 32 = omega (arith, room, is.data_file.most) in
+    payload_storable who size (Store Meta 0 (crc_from s.checksum item) mark ∷ store_meta 7 size ∷ []) r.meta_bytes some most
+    ((omega (arith, meta_size), sum, mine, omega arith, omega arith, omega arith), ((omega (arith, meta_size), most, tt, omega arith, omega arith, omega arith), tt))
+    (1 + s.size / 4) (words_of bytes) r.data_bytes (omega arith)
     (omega (arith, length-words_of bytes, length-append (tail_bytes s) item, tail_size, room, is.data_file.pages)) (small_words bytes small) firm
+
+-- the same for what is to be known of the image
+pub known_append_storable : (r : Region) (who n : ℕ) (a : Act) → IsRegion r → IsAppendable (flag r) a → 4 + n + length (item_of (flag r) a) ≤ file_size r → 0 < n →
+    (IsAccepted r → (record_of r).version ≢ 0) → AreStorable r who (append_stores (standing_of r n) (item_of (flag r) a) (Commit (record { maker = who; act = a })))
+known_append_storable r who n a is may room some firm =
+    let item = item_of (flag r) a in
+    append_storable r (standing_of r n) item (Commit (record { maker = who; act = a })) who is (All-from_Small item (item_bytes (flag r) a may)) room (omega (arith, some))
+    (subst (λ x. x < 2 ^ 32) (sym (continued_is (payload_of r n) item)) (crc_below (payload_of r n ++ item))) firm refl
+
+-- an accepted region with a whole image that isn't empty has a version
+pub whole_firm : (r : Region) (n : ℕ) → shown r ≡ Whole n → 0 < n → IsAccepted r → (record_of r).version ≢ 0
+whole_firm r n whole some ok e = go ((record_of r).size == 0) refl (subst (λ v. IsOk {T = Unit {0}} (cond (((v == 0) && ((header r == 0) && (((record_of r).checksum == 0) && (((record_of r).size == 0) && ((record_of r).flags == 0))))) || ((v == 3) || (v == 4))) (cond (nat_lt 1 (record_of r).flags) (Err (Flags (record_of r).flags)) (Ok tt)) (Err (Version v)))) e ok)
+  where
+    no : (a b c : Bool) → IsOk {T = Unit {0}} (cond ((a && (b && (false && c))) || false) (cond (nat_lt 1 (record_of r).flags) (Err (Flags (record_of r).flags)) (Ok tt)) (Err (Version 0))) → ⊥
+    no true true c o = absurd cc
+    no true false c o = absurd cc
+    no false b c o = absurd cc
+
+    go : (b : Bool) → ((record_of r).size == 0) ≡ b →
+        IsOk {T = Unit {0}} (cond ((header r == 0) && (((record_of r).checksum == 0) && (b && ((record_of r).flags == 0))) || false) (cond (nat_lt 1 (record_of r).flags) (Err (Flags (record_of r).flags)) (Ok tt)) (Err (Version 0))) → ⊥
+    go true z o = let is : (record_of r).size ≡ 0 = grind (arith, nat_tests) in absurd (omega (arith, is, some, (whole_shown r n whole).0))
+    go false z o = no (header r == 0) ((record_of r).checksum == 0) ((record_of r).flags == 0) o
+
+-- a longer file has the same header
+grown_header : (body : List ℕ) (size : ℕ) → 4 ≤ length body → word_at (grown_to body size) 0 ≡ word_at body 0
+grown_header body size inside =
+    omega (arith, same 0 (omega arith), same 1 (omega arith), same 2 (omega arith), same 3 (omega arith))
+  where
+    same : (i : ℕ) → i < 4 → slice_index (grown_to body size) i ≡ slice_index body i
+    same i lt = get_or_append_left body (replicate (size - length body) 0) 0 i (omega (arith, lt, inside))
+
+-- the sequence counts for nothing
+same_but_sequence : (meta : List ℕ) (x h : ℕ) → 112 ≤ length meta → checked (record_at (with_word meta 2 x)) h ≡ checked (record_at meta) h
+same_but_sequence meta x h inside =
+    let other = λ (w : ℕ) (n : w ≢ 2). other_word meta 2 x (omega (arith, inside)) w n in
+    let now = record_at (with_word meta 2 x) in
+    λ i. checked (record {
+      checksum = other 0 (omega arith) i;
+      version = other 1 (omega arith) i;
+      sequence = now.sequence;
+      size = other 7 (omega arith) i;
+      last_size = now.last_size;
+      last_checksum = now.last_checksum;
+      flags = other 26 (omega arith) i + 4294967296 * other 27 (omega arith) i;
+    }) h
+
+-- the events of a write-back
+module _ (who : ℕ) (new : List ℕ) (mark : Mark) (mine : IsMarkOf who mark) (bytes : Small new) (some : 0 < length new) (short : length new ≤ largest) where
+  confirm : List What
+  confirm = confirmed_by_checksum new mark
+
+  last_storable : (body meta : List ℕ) → 4 + length new ≤ length body → length body % 4 ≡ 0 → 112 ≤ length meta →
+      (IsOk (checked (record_at meta) (word_at body 0)) → (record_at meta).version ≢ 0) → AreStorable (region_of body meta) who (payload_stores new ++ confirmed_by_checksum new mark)
+  last_storable body meta room pages inside firm =
+      let sum = crc_below new in
+      let size : length new < 2 ^ 32 = omega (arith, short) in
+      payload_storable who (length new) (Store Meta 0 (crc new) mark ∷ store_meta 7 (length new) ∷ store_meta 8 (length new) ∷ store_meta 9 (crc new) ∷ []) meta some size
+      (
+        (omega (arith, inside), sum, mine, omega arith, omega arith, omega arith),
+        (
+          (omega (arith, inside), size, tt, omega arith, omega arith, omega arith),
+          ((omega (arith, inside), size, tt, omega arith, omega arith, omega arith), ((omega (arith, inside), sum, tt, omega arith, omega arith, omega arith), tt)),
+        ),
+      )
+      1 (words_of new) body (omega arith) (omega (arith, length-words_of new, room, pages)) (small_words new bytes) firm
+
+  versioned : (fresh : Bool) (body meta : List ℕ) → 4 + length new ≤ length body → length body % 4 ≡ 0 → 112 ≤ length meta →
+      (fresh ≡ false → IsOk (checked (record_at meta) (word_at body 0)) → (record_at meta).version ≢ 0) →
+      AreStorable (region_of body meta) who (cond fresh (store_meta 1 3 ∷ []) [] ++ payload_stores new ++ confirmed_by_checksum new mark)
+  versioned false body meta room pages inside firm = last_storable body meta room pages inside (firm refl)
+  versioned true body meta room pages inside firm =
+      let here : 4 * 1 + 4 ≤ length meta = omega (arith, inside) in
+      let now : (record_at (with_word meta 1 3)).version ≡ 3 = same_word meta 1 3 here (omega arith) in (
+        (here, omega arith, (λ e. inl refl), tt),
+        (λ ok. third (record_at meta) (record_at (with_word meta 1 3)) (word_at body 0) (word_at body 0) now (kept_flags meta 1 3 here (omega arith) (omega arith)) ok),
+        last_storable body (with_word meta 1 3) room pages (omega (arith, length-with_word meta 1 3 here, inside)) (λ ok e. omega (arith, now, e)),
+      )
+
+  raised : (fresh : Bool) (x : ℕ) (body meta : List ℕ) → x < 2 ^ 32 → 4 + length new ≤ length body → length body % 4 ≡ 0 → 112 ≤ length meta →
+      (fresh ≡ false → IsOk (checked (record_at meta) (word_at body 0)) → (record_at meta).version ≢ 0) →
+      AreStorable (region_of body meta) who (store_meta 2 x ∷ cond fresh (store_meta 1 3 ∷ []) [] ++ payload_stores new ++ confirmed_by_checksum new mark)
+  raised fresh x body meta small room pages inside firm =
+      let here : 4 * 2 + 4 ≤ length meta = omega (arith, inside) in
+      let same = same_but_sequence meta x (word_at body 0) inside in
+      let version : (record_at (with_word meta 2 x)).version ≡ (record_at meta).version = other_word meta 2 x here 1 (omega arith) in (
+        (here, small, (λ e. absurd (omega (arith, e))), tt),
+        (λ ok. subst IsOk (sym same) ok),
+        versioned fresh body (with_word meta 2 x) room pages (omega (arith, length-with_word meta 2 x here, inside)) (λ f ok e. firm f (subst IsOk same ok) (sym version ∙ e)),
+      )
+
+  grown_storable : (grows fresh : Bool) (wanted x : ℕ) (body meta : List ℕ) → nat_lt (length body) wanted ≡ grows → x < 2 ^ 32 → IsRoomy (4 + length new) wanted → 4 ≤ length body → length body % 4 ≡ 0 → 112 ≤ length meta →
+      (fresh ≡ false → IsOk (checked (record_at meta) (word_at body 0)) → (record_at meta).version ≢ 0) →
+      AreStorable (region_of body meta) who (cond grows (Grow wanted ∷ []) [] ++ store_meta 2 x ∷ cond fresh (store_meta 1 3 ∷ []) [] ++ payload_stores new ++ confirmed_by_checksum new mark)
+  grown_storable false fresh wanted x body meta e small roomy four pages inside firm =
+      let less : wanted ≤ length body = grind (arith, nat_tests) in
+      raised fresh x body meta small (omega (arith, less, roomy.room)) pages inside firm
+  grown_storable true fresh wanted x body meta e small roomy four pages inside firm =
+      let more : length body < wanted = grind (arith, nat_tests) in
+      let size : length (grown_to body wanted) ≡ wanted = omega (arith, length-append body (replicate (wanted - length body) 0), length-replicate {A = ℕ} (wanted - length body) 0, more) in
+      let head = grown_header body wanted four in (
+        (more, roomy.most, roomy.pages),
+        (λ ok. subst (λ h. IsOk (checked (record_at meta) h)) (sym head) ok),
+        raised fresh x (grown_to body wanted) meta small (omega (arith, size, roomy.room)) (omega (arith, size, roomy.pages)) inside (λ f ok. firm f (subst (λ h. IsOk (checked (record_at meta) h)) head ok)),
+      )
+
+-- the events of a write-back may be stored
+pub write_back_storable : (r : Region) (s : Standing) (size : Option ℕ) (new : List ℕ) (mark : Mark) (who : ℕ) → IsRegion r → s.file_size ≡ file_size r → IsFound (4 + length new) size →
+    s.sequence < 0xffffffff → AreBytes new → 0 < length new → (IsAccepted r → (record_of r).version ≡ 0 → s.version ≡ 0) → IsMarkOf who mark → AreStorable r who (write_back_stores s size new mark)
+write_back_storable r s size new mark who is file found low may some firm mine =
+    let wanted = unwrap_or size 0 in
+    let is_wanted : wanted ≡ found.wanted = ap (λ o. unwrap_or o 0) found.is in
+    let roomy : IsRoomy (4 + length new) wanted = subst (IsRoomy (4 + length new)) (sym is_wanted) found.roomy in
+    let fresh : Bool = s.version == 0 in
+    grown_storable who new mark mine (Small-from_All new may) some (omega (arith, roomy.room, roomy.most)) (nat_lt s.file_size wanted) (s.version == 0) wanted (s.sequence + 1) r.data_bytes r.meta_bytes
+    (ap (λ z. nat_lt z wanted) (sym file)) (omega (arith, low)) roomy (omega (arith, is.data_file.pages, is.data_file.not_empty)) (omega (arith, is.data_file.pages)) (omega (arith, is.meta_file.pages, is.meta_file.not_empty))
+    (λ f ok e. let z = firm ok e in versions f z)
+  where
+    versions : (s.version == 0) ≡ false → s.version ≡ 0 → ⊥
+    versions f z = grind (arith, nat_tests)

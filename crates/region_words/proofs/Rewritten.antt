@@ -22,7 +22,7 @@ use Rattle.region_words.proofs.WordStores.{Small, stored, tail_stored, length-st
 use Rattle.region_words.proofs.Regions.{Small-from_All}
 use Rattle.region_words.proofs.Appended.{after_all-append, after_all-stores}
 use Rattle.region_words.proofs.WordsSet.{Setting, set_to, set_all, last_set, AreWords, length-set_all, word-set_all}
-use Rattle.region_words.proofs.GrownFiles.{IsRoomy, IsGrownTo, grown_roomy}
+use Rattle.region_words.proofs.GrownFiles.{IsRoomy, IsFound, grown_roomy}
 
 -- the data after a payload and its size are stored
 abbrev pub written : List ℕ → List ℕ → List ℕ
@@ -148,7 +148,7 @@ IsLeft r size new t =
     × (standing_of t (length new) ≡ rewritten_standing (standing r) (if (record_of r).version == 0 then 3 else (record_of r).version) (flag r) size new)
 
 -- the size after a rewrite has room for the payload
-pub room_after : (r : Region) (m : Map) (row : Row) → IsRegion r → CanRewrite r m row → IsGrownTo (4 + length (payload_after r m row) + need_of row) (file_size r) (size_after r m row)
+pub room_after : (r : Region) (m : Map) (row : Row) → IsRegion r → CanRewrite r m row → IsFound (4 + length (payload_after r m row) + need_of row) (size_after r m row)
 room_after r m row is can =
     grown_roomy (length (payload_after r m row)) (need_of row) (fin.len (row_map r m row)) (file_size r) is.data_file.most is.data_file.pages can.1
 
