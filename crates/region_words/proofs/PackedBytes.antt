@@ -54,20 +54,32 @@ pub from_packable : (flag : Bool) (m : Map) → IsPackable flag m → Packable f
 from_packable flag m p key d e = from_pair flag key d (p key d e)
 
 -- a packed map is bytes
-packed_bytes : (flag : Bool) (m : Map) → Packable flag m → AreBytes (packed flag m)
-packed_bytes flag m p = Small-to (packed flag m) (packed_small flag m p)
+pub packed_bytes : (flag : Bool) (m : Map) → IsPackable flag m → AreBytes (packed flag m)
+packed_bytes flag m p = Small-to (packed flag m) (packed_small flag m (from_packable flag m p))
 
--- the payload of a write-back is bytes
-pub write_back_bytes : (r : Region) (m : Map) (row : Row) → IsWriteBack row → IsPackable (flag r) m → AreBytes (payload_after r m row)
-write_back_bytes r m (Pack now need) w p = packed_bytes (flag r) (live_part m now) (packable_live (flag r) m now (from_packable (flag r) m p))
-write_back_bytes r m Clear w p = packed_bytes (flag r) fin.empty (packable_empty (flag r))
-write_back_bytes r m (Append a) w p = absurd w
-write_back_bytes r m (Enable now seconds) w p = absurd w
-write_back_bytes r m (Disable now) w p = absurd w
-write_back_bytes r m Restore w p = absurd w
-write_back_bytes r m Discard w p = absurd w
-write_back_bytes r m Recover w p = absurd w
-write_back_bytes r m SizeRepair w p = absurd w
+-- what a rewrite leaves of a map that can be packed can be packed
+pub pack_packs : (flag : Bool) (m : Map) (now : ℕ) → IsPackable flag m → IsPackable flag (applied m (act.Pack now))
+pack_packs flag m now p = to_packable flag (live_part m now) (packable_live flag m now (from_packable flag m p))
+
+pub clear_packs : (flag : Bool) (m : Map) → IsPackable flag (applied m act.Clear)
+clear_packs flag m = to_packable flag fin.empty (packable_empty flag)
+
+in_range : (now seconds : ℕ) → now + seconds < 2 ^ 32 → expiry_after now seconds < 2 ^ 32
+in_range now seconds h = go (seconds == 0)
+  where
+    go : (b : Bool) → cond b 0 (now + seconds) < 2 ^ 32
+    go true = omega arith
+    go false = h
+
+pub enable_packs : (flag : Bool) (m : Map) (now seconds : ℕ) → now + seconds < 2 ^ 32 → IsPackable flag m → IsPackable true (applied m (act.Enable now seconds))
+enable_packs flag m now seconds h p =
+    to_packable true (with_expiry (expiry_after now seconds) m)
+    (packable_expiring flag true m (expiry_after now seconds) (in_range now seconds h) (λ f. absurd cc) (from_packable flag m p))
+
+pub disable_packs : (flag : Bool) (m : Map) (now : ℕ) → IsPackable flag m → IsPackable false (applied m (act.Disable now))
+disable_packs flag m now p =
+    to_packable false (with_expiry 0 (live_part m now))
+    (packable_expiring flag false (live_part m now) 0 (omega arith) (λ f. refl) (packable_live flag m now (from_packable flag m p)))
 
 -- the map of an image can be packed
 pub shown_packs : (r : Region) (m : Map) → IsRegion r → map_shown r ≡ Some m → IsPackable (flag r) m

@@ -5,7 +5,7 @@ use Rattle.crc_words.specs.Crc.{crc, crc_from}
 use Rattle.expiring_map.specs.Map.{Map}
 use Rattle.kv_pairs.specs.Mapped.{packed}
 use Rattle.kv_pairs.specs.Growth.{grown_size}
-use Rattle.region_words.specs.Rows.{Row, Pack, Clear, write_back_stores, switch_stores}
+use Rattle.region_words.specs.Rows.{Row, Pack, Clear, Enable, Disable, write_back_stores, switch_stores}
 use Rattle.region_words.specs.Standings.{tail_of, tail_bytes}
 use Rattle.region_words.specs.Share.{ShareState, Goes, stored}
 use Rattle.region_words.specs.Owing.{IsOwing}
@@ -80,3 +80,9 @@ abbrev pub IsWriteBack : Row → Type 0
 IsWriteBack (Pack now need) = ⊤
 IsWriteBack Clear = ⊤
 IsWriteBack _ = ⊥
+
+-- the rows that write a payload with the other flag
+abbrev pub IsSwitch : Row → Type 0
+IsSwitch (Enable now seconds) = ⊤
+IsSwitch (Disable now) = ⊤
+IsSwitch _ = ⊥
