@@ -45,7 +45,7 @@ after v (Lock kind) = v
 after v Unlock = v
 
 -- one word of the meta file
-word_set : (bytes : List ℕ) (w x k : ℕ) → 4 * w + 4 ≤ length bytes → x < 2 ^ 32 → word_at (with_word bytes w x) k ≡ (if w == k then x else word_at bytes k)
+pub word_set : (bytes : List ℕ) (w x k : ℕ) → 4 * w + 4 ≤ length bytes → x < 2 ^ 32 → word_at (with_word bytes w x) k ≡ (if w == k then x else word_at bytes k)
 word_set bytes w x k inside small = go (w == k) refl
   where
     go : (b : Bool) → (w == k) ≡ b → word_at (with_word bytes w x) k ≡ (if b then x else word_at bytes k)
@@ -53,7 +53,7 @@ word_set bytes w x k inside small = go (w == k) refl
     go false e = other_word bytes w x inside k (grind (arith, nat_tests))
 
 -- an accepted record has flags 0 or 1
-few_flags : (r : Region) → IsAccepted r → (record_of r).flags ≤ 1
+pub few_flags : (r : Region) → IsAccepted r → (record_of r).flags ≤ 1
 few_flags r a = not_above (record_of r).flags (go (is_fresh (record_of r) (header r) || (((record_of r).version == 3) || ((record_of r).version == 4))) (nat_lt 1 (record_of r).flags) a)
   where
     go : (b c : Bool) → IsOk {T = Unit {0}} {E = RecordFault} (if b then (if c then Err (Flags (record_of r).flags) else Ok tt) else Err (Version (record_of r).version)) → c ≡ false

@@ -26,6 +26,7 @@ use Rattle.region_words.proofs.WordStores.{Small, stored, tail_stored, length-st
 use Rattle.region_words.proofs.Regions.{Small-from_All}
 use Rattle.region_words.proofs.Appended.{after_all-append, after_all-stores}
 use Rattle.region_words.proofs.WordsSet.{Setting, set_to, set_all, last_set, AreWords, length-set_all, word-set_all}
+use Rattle.region_words.proofs.Changes.{few_flags}
 use Rattle.region_words.proofs.TextProofs.{text_laws}
 use Rattle.region_words.proofs.GrownFiles.{IsRoomy, IsFound, grown_roomy}
 
@@ -280,25 +281,16 @@ write_back_leaves r m room who Discard is w b bytes = absurd w
 write_back_leaves r m room who Recover is w b bytes = absurd w
 write_back_leaves r m room who SizeRepair is w b bytes = absurd w
 
--- an accepted record has no flags but the one
-few_flags : (rec : Record) (h : ℕ) → IsOk (checked rec h) → rec.flags ≤ 1
-few_flags rec h ok = go (is_fresh rec h || ((rec.version == 3) || (rec.version == 4))) (nat_lt 1 rec.flags) refl ok
-  where
-    go : (a b : Bool) → nat_lt 1 rec.flags ≡ b → IsOk {T = Unit {0}} (cond a (cond b (Err (Flags rec.flags)) (Ok tt)) (Err (Version rec.version))) → rec.flags ≤ 1
-    go true false e o = grind (arith, nat_tests)
-    go true true e o = absurd cc
-    go false b e o = absurd cc
-
 -- after a switch of the flag
 pub switch_leaves : (r : Region) (m : Map) (room : Option ℕ) (who : ℕ) (row : Row) → IsRegion r → IsAccepted r → IsSwitch row → MayBegin r m room row → AreBytes (payload_after r m row) →
     IsLeft r 4 (flag_after r row) (size_after r m row) (payload_after r m row) (after_all r (events_of r m who row))
 unfolding events_of
 switch_leaves r m room who (Enable now seconds) is ok w b bytes =
     switch_left r m (Enable now seconds) (mark_of r who (Enable now seconds)) is b.3 bytes 1 true (omega arith)
-    (let none : word_at r.meta_bytes 27 ≡ 0 = omega (arith, few_flags (record_of r) (header r) ok) in ap (λ k. (1 + 4294967296 * k) == 1) none)
+    (let none : word_at r.meta_bytes 27 ≡ 0 = omega (arith, few_flags r ok) in ap (λ k. (1 + 4294967296 * k) == 1) none)
 switch_leaves r m room who (Disable now) is ok w b bytes =
     switch_left r m (Disable now) (mark_of r who (Disable now)) is b.2 bytes 0 false (omega arith)
-    (let none : word_at r.meta_bytes 27 ≡ 0 = omega (arith, few_flags (record_of r) (header r) ok) in ap (λ k. (0 + 4294967296 * k) == 1) none)
+    (let none : word_at r.meta_bytes 27 ≡ 0 = omega (arith, few_flags r ok) in ap (λ k. (0 + 4294967296 * k) == 1) none)
 switch_leaves r m room who (Append a) is ok w b bytes = absurd w
 switch_leaves r m room who (Pack now need) is ok w b bytes = absurd w
 switch_leaves r m room who Clear is ok w b bytes = absurd w

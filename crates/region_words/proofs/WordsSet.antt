@@ -3,7 +3,8 @@ use Rattle.std.proofs.Common.{◌≡◌, ◌≢◌, ℕ, ◌+◌, ◌*◌, ◌^�
 use Rattle.std.specs.Prelude.{◌==◌, if◌then◌else◌}
 use Rattle.std.proofs.lemmas.Bool.Decides.{nat_tests}
 use Rattle.meta_record.specs.Words.{word_at, with_word}
-use Rattle.meta_record.proofs.WordLemmas.{length-with_word, same_word, other_word}
+use Rattle.meta_record.proofs.WordLemmas.{length-with_word}
+use Rattle.region_words.proofs.Changes.{word_set}
 
 -- a word and its value
 pub record Setting : Type 0 where
@@ -33,17 +34,10 @@ length-set_all size file [] e a = e
 length-set_all size file (s ∷ rest) e a =
     length-set_all size (with_word file s.word s.value) rest (length-with_word file s.word s.value (omega (arith, e, a.0)) ∙ e) a.2
 
-read_one : (file : List ℕ) (x v w : ℕ) → 4 * x + 4 ≤ length file → v < 2 ^ 32 → word_at (with_word file x v) w ≡ (if x == w then v else word_at file w)
-read_one file x v w inside small = go (x == w) refl
-  where
-    go : (b : Bool) → (x == w) ≡ b → word_at (with_word file x v) w ≡ cond b v (word_at file w)
-    go true e = let same : x ≡ w = grind (arith, nat_tests) in ap (word_at (with_word file x v)) (sym same) ∙ same_word file x v inside small
-    go false e = let other : w ≢ x = grind (arith, nat_tests) in other_word file x v inside w other
-
 -- the last value that was stored in a word is read
 pub word-set_all : (size : ℕ) (file : List ℕ) (stores : List Setting) → length file ≡ size → AreWords size stores → (w : ℕ) →
     word_at (set_all file stores) w ≡ last_set w (word_at file w) stores
 word-set_all size file [] e a w = refl
 word-set_all size file (s ∷ rest) e a w =
     word-set_all size (with_word file s.word s.value) rest (length-with_word file s.word s.value (omega (arith, e, a.0)) ∙ e) a.2 w
-    ∙ ap (λ v. last_set w v rest) (read_one file s.word s.value w (omega (arith, e, a.0)) a.1)
+    ∙ ap (λ v. last_set w v rest) (word_set file s.word s.value w (omega (arith, e, a.0)) a.1)
