@@ -4,17 +4,14 @@ use Rattle.std.specs.Int.{to_le_bytes, w32}
 use Rattle.std.proofs.lemmas.List.{drop-append-le}
 use Rattle.crc_words.specs.Crc.{crc, crc_from}
 use Rattle.crc_words.proofs.Continued.{continued_is}
-use Rattle.std.specs.Prelude.{All, Bool, true, false, Option, unwrap_or}
-use Rattle.std.specs.FinMap as fin
+use Rattle.std.specs.Prelude.{All, true, false, unwrap_or}
 use Rattle.expiring_map.specs.Map.{Map}
-use Rattle.kv_pairs.specs.Mapped.{packed}
-use Rattle.kv_pairs.specs.Growth.{grown_size}
 use Rattle.change_log.specs.Acts.{applied}
 use Rattle.change_log.specs.declared.change.Act.TheVariants as act
 use Rattle.meta_record.specs.declared.shown.Shown.TheVariants.{Whole}
 use Rattle.change_log.specs.declared.change.Act.{Act}
 use Rattle.region_words.specs.Region.{Region, record_of, flag, payload_of, shown, size_shown, size_of}
-use Rattle.region_words.specs.Rows.{Row, Append, Pack, Clear, Enable, Disable, Restore, Discard, Recover, SizeRepair, events_of, standing, append_stores, write_back_stores, switch_stores, item_of, mark_of, stores_from, store_data, store_meta}
+use Rattle.region_words.specs.Rows.{Row, Append, Pack, Clear, Enable, Disable, Restore, Discard, Recover, SizeRepair, events_of, standing, append_stores, item_of, mark_of, stores_from, store_data, store_meta}
 use Rattle.region_words.specs.Making.{write_back_by, switch_by}
 use Rattle.region_words.proofs.OfRegion.{append_to}
 use Rattle.region_words.specs.Standings.{IsStandingOf, standing_of, first_of, words_of, tail_bytes}

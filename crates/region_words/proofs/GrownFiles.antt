@@ -1,6 +1,6 @@
 -- The size to which a rewrite grows the file has room, and is one that a file may have.
-use Rattle.std.proofs.Common.{◌≡◌, ℕ, zero, suc, ◌+◌, ◌*◌, ◌%◌, ◌<◌, ◌≤◌, Bool, true, false, cond, refl, arith, subst}
-use Rattle.std.specs.Prelude.{Some, None, Option, IsSome, nat_lt, max, unwrap_or}
+use Rattle.std.proofs.Common.{◌≡◌, ℕ, zero, suc, ◌+◌, ◌*◌, ◌%◌, ◌<◌, ◌≤◌, Bool, true, false, cond, refl, arith}
+use Rattle.std.specs.Prelude.{Some, None, Option, IsSome, nat_lt}
 use Rattle.std.proofs.lemmas.Bool.Decides.{nat_tests}
 use Rattle.kv_pairs.specs.Growth.{largest, doubled, spare, grown_size}
 

@@ -1,6 +1,5 @@
 -- What an append leaves is known from what was known before it.
-use Rattle.std.proofs.Common.{◌≡◌, ℕ, ◌+◌, ◌-◌, ◌*◌, ◌/◌, ◌%◌, ◌^◌, ◌<◌, ◌≤◌, List, ◌++◌, length, take, drop, refl, sym, ap, ◌∙◌, arith, subst, length-append, length-drop}
-use Rattle.std.specs.Prelude.{unwrap_or}
+use Rattle.std.proofs.Common.{◌≡◌, ℕ, ◌+◌, ◌*◌, ◌/◌, ◌%◌, ◌^◌, ◌<◌, ◌≤◌, List, ◌++◌, length, drop, sym, ap, ◌∙◌, arith, subst, length-append, length-drop}
 use Rattle.std.proofs.lemmas.List.{drop-append-le, drop-drop}
 use Rattle.std.proofs.lemmas.List.Elements.{All-drop}
 use Rattle.crc_words.specs.Crc.{crc, crc_from}
@@ -8,7 +7,7 @@ use Rattle.crc_words.proofs.Continued.{continued_is}
 use Rattle.expiring_map.specs.Map.{Map}
 use Rattle.change_log.specs.declared.change.Act.{Act}
 use Rattle.meta_record.specs.declared.shown.Shown.TheVariants.{Whole}
-use Rattle.region_words.specs.Region.{Region, IsRegion, record_of, flag, file_size, payload_of, shown, size_shown}
+use Rattle.region_words.specs.Region.{Region, IsRegion, record_of, flag, payload_of, shown, size_shown}
 use Rattle.region_words.specs.Past.{after_all}
 use Rattle.region_words.specs.Rows.{Append, HasRoom, IsAppendable, events_of, item_of, mark_of, standing}
 use Rattle.region_words.specs.Standings.{tail_of, tail_bytes, standing_of, first_of, words_of}
@@ -16,7 +15,6 @@ use Rattle.region_words.specs.Making.{appended_standing}
 use Rattle.region_words.specs.declared.event.Mark.{Mark}
 use Rattle.region_words.proofs.WordStores.{Small, Small-take, Small-drop}
 use Rattle.region_words.proofs.Regions.{Small-from_All, joined_bytes}
-use Rattle.region_words.proofs.OfRegion.{append_to}
 use Rattle.region_words.proofs.Shows.{whole_shown, size_is_shown}
 use Rattle.region_words.proofs.RowsStand.{item_bytes}
 use Rattle.region_words.proofs.ByStanding.{tail_stands, append_is_stores}

@@ -1,5 +1,5 @@
 -- A map of pairs that can be packed is packed to bytes, and the maps of images and of what is appended to them are such.
-use Rattle.std.proofs.Common.{◌≡◌, ℕ, ◌+◌, ◌^◌, ◌<◌, ◌≤◌, Bool, true, false, cond, List, [], ◌∷◌, ◌++◌, length, drop, refl, sym, ap, ◌∙◌, arith, subst, length-append, length-take, length-drop}
+use Rattle.std.proofs.Common.{◌≡◌, ℕ, ◌+◌, ◌^◌, ◌<◌, ◌≤◌, Bool, true, false, cond, List, [], length, drop, refl, sym, ◌∙◌, arith, subst, length-append, length-take, length-drop}
 use Rattle.std.specs.Prelude.{Option, Some, None, option_and_then, ◌==◌}
 use Rattle.std.specs.Int.{to_le_bytes, w32}
 use Rattle.std.specs.Ordering.{eq_by_cmp}
@@ -18,8 +18,7 @@ use Rattle.change_log.specs.Acts.{applied, expiry_after}
 use Rattle.change_log.specs.declared.change.Act.{Act}
 use Rattle.change_log.specs.declared.change.Act.TheVariants as act
 use Rattle.region_words.specs.Region.{Region, IsRegion, flag, payload_of, shown, size_of, map_shown}
-use Rattle.region_words.specs.Rows.{Row, Append, Pack, Clear, Enable, Disable, Restore, Discard, Recover, SizeRepair, AreBytes, IsAppendable, item_of, payload_after}
-use Rattle.region_words.specs.Making.{IsWriteBack}
+use Rattle.region_words.specs.Rows.{AreBytes, IsAppendable, item_of}
 
 to_pair : (flag : Bool) (key : List ℕ) (d : ValueUntil) → Packs flag key d → IsPackablePair flag key d
 to_pair flag key d p =

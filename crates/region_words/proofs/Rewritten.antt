@@ -1,6 +1,6 @@
 -- What a write-back leaves is known from what was known before it and from what was written.
-use Rattle.std.proofs.Common.{◌≡◌, ℕ, ◌+◌, ◌-◌, ◌*◌, ◌/◌, ◌%◌, ◌^◌, ◌<◌, ◌≤◌, Bool, true, false, cond, List, [], ◌∷◌, ◌++◌, length, refl, sym, ap, ◌∙◌, arith, subst, length-append}
-use Rattle.std.specs.Prelude.{All, Option, IsOk, Ok, Err, ◌||◌, nat_lt, max, unwrap_or, replicate, ◌==◌, if◌then◌else◌}
+use Rattle.std.proofs.Common.{◌≡◌, ℕ, ◌+◌, ◌-◌, ◌*◌, ◌%◌, ◌^◌, ◌<◌, ◌≤◌, Bool, true, false, cond, List, [], ◌∷◌, ◌++◌, length, refl, sym, ap, ◌∙◌, arith, subst, length-append}
+use Rattle.std.specs.Prelude.{Option, nat_lt, max, unwrap_or, replicate, ◌==◌, if◌then◌else◌}
 use Rattle.std.proofs.lemmas.Bool.Decides.{nat_tests}
 use Rattle.std.proofs.lemmas.List.{length-replicate}
 use Rattle.std.proofs.lemmas.List.Elements.{All-drop}
@@ -10,25 +10,22 @@ use Rattle.crc_words.proofs.Bounds.{crc_below}
 use Rattle.expiring_map.specs.Map.{Map}
 use Rattle.kv_pairs.specs.Growth.{largest}
 use Rattle.meta_record.specs.Words.{word_at, with_word, grown_to}
-use Rattle.meta_record.specs.Records.{record_at, checked, is_fresh}
-use Rattle.meta_record.specs.declared.record.Record.{Record}
-use Rattle.meta_record.specs.declared.record.RecordFault.TheVariants.{Version, Flags}
+use Rattle.meta_record.specs.Records.{record_at}
 use Rattle.meta_record.proofs.WordLemmas.{length-with_word}
-use Rattle.region_words.specs.Region.{Region, IsRegion, IsAccepted, record_of, header, flag, file_size, payload_of}
+use Rattle.region_words.specs.Region.{Region, IsRegion, IsAccepted, record_of, flag, file_size, payload_of}
 use Rattle.region_words.specs.Past.{after_all}
 use Rattle.region_words.specs.Rows.{Row, Append, Pack, Clear, Enable, Disable, Restore, Discard, Recover, SizeRepair, MayBegin, CanRewrite, write_back_stores, AreBytes, events_of, standing, size_after, payload_after, need_of, row_map, store_meta, flag_after, payload_stores, close_sizes, closed_size, switch_stores, recover_stores, confirmed_by_checksum, confirmed_by_header, mark_of}
 use Rattle.region_words.specs.Standings.{standing_of, words_of, tail_of}
 use Rattle.region_words.specs.Making.{rewritten_standing, IsWriteBack, IsSwitch}
 use Rattle.region_words.specs.declared.event.Mark.{Mark}
-use Rattle.region_words.specs.declared.event.What.{What}
 use Rattle.region_words.specs.declared.event.What.TheVariants.{Grow}
 use Rattle.region_words.proofs.WordStores.{Small, stored, tail_stored, length-stored, length-words_of}
 use Rattle.region_words.proofs.Regions.{Small-from_All}
 use Rattle.region_words.proofs.Appended.{after_all-append, after_all-stores}
-use Rattle.region_words.proofs.WordsSet.{Setting, set_to, set_all, last_set, AreWords, length-set_all, word-set_all}
+use Rattle.region_words.proofs.WordsSet.{Setting, set_to, set_all, last_set, AreWords, word-set_all}
 use Rattle.region_words.proofs.Changes.{few_flags}
 use Rattle.region_words.proofs.TextProofs.{text_laws}
-use Rattle.region_words.proofs.GrownFiles.{IsRoomy, IsFound, grown_roomy}
+use Rattle.region_words.proofs.GrownFiles.{IsFound, grown_roomy}
 
 -- the data after a payload and its size are stored
 abbrev pub written : List ℕ → List ℕ → List ℕ

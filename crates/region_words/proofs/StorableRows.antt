@@ -1,16 +1,14 @@
 -- The events of a row may be stored one after another: they lie in the files, and leave an accepted region accepted.
-use Rattle.std.proofs.Common.{◌≡◌, ◌≢◌, ℕ, zero, suc, ◌+◌, ◌-◌, ◌*◌, ◌/◌, ◌%◌, ◌^◌, ◌<◌, ◌≤◌, Bool, true, false, cond, List, [], ◌∷◌, ◌++◌, length, take, refl, sym, ap, ◌∙◌, arith, subst, inl, inr, append-nil, length-append, length-take}
-use Rattle.std.specs.Prelude.{Option, Some, None, All, IsOk, Result, Ok, Err, nat_lt, max, unwrap_or, replicate, slice_index, ◌&&◌, ◌||◌, ◌==◌, if◌then◌else◌}
+use Rattle.std.proofs.Common.{◌≡◌, ◌≢◌, ℕ, ◌+◌, ◌-◌, ◌*◌, ◌/◌, ◌%◌, ◌^◌, ◌<◌, ◌≤◌, Bool, true, false, cond, List, [], ◌∷◌, ◌++◌, length, refl, sym, ap, ◌∙◌, arith, subst, inl, inr, append-nil, length-append, length-take}
+use Rattle.std.specs.Prelude.{Option, IsOk, Ok, Err, nat_lt, unwrap_or, replicate, slice_index, ◌&&◌, ◌||◌, ◌==◌}
 use Rattle.std.specs.Int.{to_le_bytes, w32}
 use Rattle.std.proofs.lemmas.Bool.Decides.{nat_tests}
 use Rattle.std.proofs.lemmas.List.{get_or_append_left, length-replicate}
 use Rattle.crc_words.specs.Crc.{crc, crc_from}
 use Rattle.crc_words.proofs.Bounds.{crc_below}
 use Rattle.crc_words.proofs.Continued.{continued_is}
-use Rattle.expiring_map.specs.Map.{Map}
 use Rattle.kv_pairs.specs.Growth.{largest}
 use Rattle.change_log.specs.declared.change.Act.{Act}
-use Rattle.change_log.specs.declared.change.Change.{Change}
 use Rattle.meta_record.specs.Words.{word_at, with_word, grown_to}
 use Rattle.meta_record.specs.Records.{record_at, checked, is_fresh}
 use Rattle.meta_record.specs.declared.record.Record.{Record}
@@ -20,21 +18,16 @@ use Rattle.meta_record.specs.declared.shown.Shown.TheVariants.{Whole}
 use Rattle.kv_pairs.proofs.GoodItems.{Small-at, Small-from as bytes_from}
 use Rattle.meta_record.proofs.WordLemmas.{length-with_word, same_word, other_word}
 use Rattle.region_words.specs.Region.{Region, IsRegion, IsAccepted, region_of, record_of, header, flag, file_size, payload_of, shown}
-use Rattle.region_words.specs.Past.{region_after, region_step}
-use Rattle.region_words.specs.Rows.{Row, Append, Pack, Clear, Enable, Disable, Restore, Discard, Recover, SizeRepair, MayBegin, IsAppendable, AreBytes, events_of, item_of, append_stores, write_back_stores, switch_stores, recover_stores, restore_stores, discard_stores, size_repair_stores, stores_from, store_data, store_meta, payload_stores, close_sizes, confirmed_by_checksum, confirmed_by_header, size_after, payload_after, mark_of}
+use Rattle.region_words.specs.Rows.{IsAppendable, AreBytes, item_of, append_stores, write_back_stores, switch_stores, recover_stores, restore_stores, discard_stores, size_repair_stores, stores_from, store_data, store_meta, payload_stores, close_sizes, confirmed_by_checksum, confirmed_by_header}
 use Rattle.region_words.specs.Standings.{words_of, tail_bytes, standing_of}
-use Rattle.region_words.specs.Apart.{Apart}
-use Rattle.region_words.specs.Lawful.{Between, Reaches, IsMarkOf, map_after}
-use Rattle.region_words.specs.Told.{History}
-use Rattle.region_words.specs.Share.{ShareState, Agrees}
-use Rattle.region_words.specs.Owing.{AreStorable, Comes, Owes}
+use Rattle.region_words.specs.Lawful.{IsMarkOf}
+use Rattle.region_words.specs.Owing.{AreStorable}
 use Rattle.region_words.specs.declared.standing.Standing.{Standing}
 use Rattle.region_words.specs.declared.event.Side.TheVariants.{Data, Meta}
 use Rattle.region_words.specs.declared.event.Mark.{Mark}
-use Rattle.region_words.specs.declared.event.Mark.TheVariants.{Plain, Commit}
+use Rattle.region_words.specs.declared.event.Mark.TheVariants.{Commit}
 use Rattle.region_words.specs.declared.event.What.{What}
 use Rattle.region_words.specs.declared.event.What.TheVariants.{Store, Grow, Lock, Unlock, Died}
-use Rattle.region_words.specs.declared.event.Event.{Event}
 use Rattle.region_words.proofs.WordStores.{Small, Small-take, length-words_of}
 use Rattle.region_words.proofs.Regions.{Small-from_All, All-from_Small, joined_bytes, word_bytes}
 use Rattle.region_words.proofs.Shows.{whole_shown}
@@ -244,8 +237,7 @@ module _ (who : ℕ) (new : List ℕ) (mark : Mark) (mine : IsMarkOf who mark) (
   last_storable body meta room pages inside firm =
       let sum = crc_below new in
       let size : length new < 2 ^ 32 = omega (arith, short) in
-      payload_storable who (length new) (Store Meta 0 (crc new) mark ∷ store_meta 7 (length new) ∷ store_meta 8 (length new) ∷ store_meta 9 (crc new) ∷ []) meta some size
-      (
+      payload_storable who (length new) (Store Meta 0 (crc new) mark ∷ store_meta 7 (length new) ∷ store_meta 8 (length new) ∷ store_meta 9 (crc new) ∷ []) meta some size (
         (omega (arith, inside), sum, mine, omega arith, omega arith, omega arith),
         (
           (omega (arith, inside), size, tt, omega arith, omega arith, omega arith),
@@ -483,7 +475,7 @@ recover_storable r s size new mark who is file found low n may mine =
     (ap (λ z. nat_lt z wanted) (sym file)) n roomy (omega (arith, is.data_file.pages, is.data_file.not_empty)) (omega (arith, is.data_file.pages)) (omega (arith, is.meta_file.pages, is.meta_file.not_empty))
 
 -- a word of a file is a number of 32 bits
-read_below : (file : List ℕ) (w : ℕ) → AreBytes file → word_at file w < 2 ^ 32
+pub read_below : (file : List ℕ) (w : ℕ) → AreBytes file → word_at file w < 2 ^ 32
 read_below file w h =
     let s = bytes_from file h in
     omega (arith, Small-at file (4 * w) s, Small-at file (4 * w + 1) s, Small-at file (4 * w + 2) s, Small-at file (4 * w + 3) s)
@@ -495,8 +487,7 @@ restore_storable r s mark who is low n mine =
     let four : 4 ≤ length r.data_bytes = omega (arith, is.data_file.pages, is.data_file.not_empty) in
     let size = read_below r.meta_bytes 8 is.meta_file.small in
     let sum = read_below r.meta_bytes 9 is.meta_file.small in
-    mild_storable who (restore_stores s (record_of r) mark) r.data_bytes r.meta_bytes n
-    (
+    mild_storable who (restore_stores s (record_of r) mark) r.data_bytes r.meta_bytes n (
       (omega (arith, inside), omega (arith, low), tt, omega arith, omega arith, omega arith),
       (
         (omega (arith, four), size, tt),
@@ -508,8 +499,7 @@ pub discard_storable : (r : Region) (s : Standing) (mark : Mark) (who : ℕ) →
 discard_storable r s mark who is low n mine =
     let inside : 112 ≤ length r.meta_bytes = omega (arith, is.meta_file.pages, is.meta_file.not_empty) in
     let four : 4 ≤ length r.data_bytes = omega (arith, is.data_file.pages, is.data_file.not_empty) in
-    mild_storable who (discard_stores s mark) r.data_bytes r.meta_bytes n
-    (
+    mild_storable who (discard_stores s mark) r.data_bytes r.meta_bytes n (
       (omega (arith, inside), omega (arith, low), tt, omega arith, omega arith, omega arith),
       (
         (omega (arith, four), omega arith, tt),

@@ -1,5 +1,3 @@
-use Rattle.region_words.proofs.OwedRows.{owes_row}
-use Rattle.region_words.proofs.StorableRows.{append_storable}
 use Rattle.region_words.proofs.PackedBytes.{packed_bytes, shown_packs, appended_packs, pack_packs, clear_packs, enable_packs, disable_packs}
 use Rattle.region_words.proofs.laws.what_is_packed_is_bytes.Goals as goal
 
