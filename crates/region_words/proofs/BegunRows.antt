@@ -1,19 +1,14 @@
 -- The events of a row that may begin in an accepted region may be stored.
-use Rattle.std.proofs.Common.{◌≡◌, ◌≢◌, ℕ, ◌+◌, ◌^◌, ◌<◌, Bool, true, false, cond, [], length, refl, sym, ap, ◌∙◌, arith, subst, length-append}
-use Rattle.std.specs.Prelude.{Option, IsOk, Ok, Err, is_some, nat_lt, unwrap_or, flat_map, ◌&&◌, ◌||◌, ◌==◌}
+use Rattle.std.proofs.Common.{◌≡◌, ℕ, ◌+◌, ◌^◌, ◌<◌, Bool, true, false, length, refl, sym, ap, ◌∙◌, arith, subst, length-append}
+use Rattle.std.specs.Prelude.{Option, unwrap_or, flat_map}
 use Rattle.std.proofs.lemmas.List.Elements.{All-drop}
 use Rattle.std.specs.FinMap as fin
 use Rattle.expiring_map.specs.Map.{Map}
-use Rattle.kv_pairs.specs.Reading.{read_payload, length_at}
-use Rattle.kv_pairs.specs.Mapped.{packed, heading, put_item, map_in, IsPackable}
+use Rattle.kv_pairs.specs.Mapped.{packed, heading, put_item, IsPackable}
 use Rattle.change_log.specs.Acts.{applied}
 use Rattle.change_log.specs.declared.change.Act.TheVariants as act
-use Rattle.meta_record.specs.Records.{is_fresh}
-use Rattle.meta_record.specs.declared.shown.Damage.TheVariants.{Content}
 use Rattle.meta_record.specs.declared.shown.Shown.TheVariants.{Whole, Header, Last, Damaged}
-use Rattle.meta_record.specs.declared.record.RecordFault.TheVariants.{Version, Flags}
-use Rattle.meta_record.proofs.FreshStores.{fresh_is_whole}
-use Rattle.region_words.specs.Region.{Region, IsRegion, IsAccepted, record_of, header, flag, shown, size_of, if_it_has_a_map}
+use Rattle.region_words.specs.Region.{Region, IsRegion, IsAccepted, flag, shown, size_of}
 use Rattle.region_words.specs.Rows.{Row, Append, Pack, Clear, Enable, Disable, Restore, Discard, Recover, SizeRepair, MayBegin, CanRewrite, events_of, item_of, append_stores, mark_of, standing, payload_after, size_after}
 use Rattle.region_words.specs.Standings.{standing_of}
 use Rattle.region_words.specs.Owing.{AreStorable}
@@ -22,27 +17,8 @@ use Rattle.region_words.proofs.GrownFiles.{IsFound}
 use Rattle.region_words.proofs.Rewritten.{room_after}
 use Rattle.region_words.proofs.TextProofs.{text_laws}
 use Rattle.region_words.proofs.PackedBytes.{packed_bytes, pack_packs, clear_packs, enable_packs, disable_packs}
-use Rattle.region_words.proofs.StorableRows.{known_append_storable, write_back_storable, switch_storable, recover_storable, restore_storable, discard_storable, size_repair_storable, whole_firm, read_below}
-
--- an empty payload has a map
-empty_map : (on : Bool) → is_some (map_in on []) ≡ true
-unfolding read_payload length_at
-empty_map on = refl
-
--- an accepted region that shows no whole image has a version
-broken_firm : (r : Region) → IsRegion r → IsAccepted r → ((n : ℕ) → shown r ≡ Whole n → ⊥) → (record_of r).version ≢ 0
-unfolding shown
-broken_firm r is ok broken e = broken 0 (ap (if_it_has_a_map r) (fresh_is_whole (record_of r) (header r) r.data_bytes fresh (omega (arith, is.data_file.pages, is.data_file.not_empty))) ∙ ap (λ b. cond b (Whole 0) (Damaged Content)) (empty_map (flag r)))
-  where
-    known : (f : Bool) → IsOk {T = Unit {0}} (cond (f || false) (cond (nat_lt 1 (record_of r).flags) (Err (Flags (record_of r).flags)) (Ok tt)) (Err (Version 0))) → f ≡ true
-    known true o = refl
-    known false o = absurd cc
-
-    fresh : is_fresh (record_of r) (header r) ≡ true
-    fresh =
-        subst (λ v. ((v == 0) && ((header r == 0) && (((record_of r).checksum == 0) && (((record_of r).size == 0) && ((record_of r).flags == 0))))) ≡ true) (sym e)
-        (known ((header r == 0) && (((record_of r).checksum == 0) && (((record_of r).size == 0) && ((record_of r).flags == 0))))
-        (subst (λ v. IsOk {T = Unit {0}} (cond (((v == 0) && ((header r == 0) && (((record_of r).checksum == 0) && (((record_of r).size == 0) && ((record_of r).flags == 0))))) || ((v == 3) || (v == 4))) (cond (nat_lt 1 (record_of r).flags) (Err (Flags (record_of r).flags)) (Ok tt)) (Err (Version v)))) e ok))
+use Rattle.region_words.proofs.StaysAccepted.{whole_firm, broken_firm}
+use Rattle.region_words.proofs.StorableRows.{known_append_storable, write_back_storable, switch_storable, recover_storable, restore_storable, discard_storable, size_repair_storable, read_below}
 
 some_packed : (on : Bool) (m : Map) → 0 < length (packed on m)
 unfolding packed

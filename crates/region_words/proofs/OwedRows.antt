@@ -3,9 +3,9 @@ use Rattle.std.proofs.Common.{◌≡◌, ℕ, ◌+◌, ◌/◌, ◌≤◌, Bool,
 use Rattle.std.specs.Prelude.{Option, nat_lt, unwrap_or, ◌==◌}
 use Rattle.crc_words.specs.Crc.{crc_from}
 use Rattle.expiring_map.specs.Map.{Map}
-use Rattle.region_words.specs.Region.{Region, record_of, file_size}
+use Rattle.region_words.specs.Region.{Region}
 use Rattle.region_words.specs.Past.{region_after}
-use Rattle.region_words.specs.Rows.{Row, Append, Pack, Clear, Enable, Disable, Restore, Discard, Recover, SizeRepair, MayBegin, events_of, append_stores, write_back_stores, switch_stores, recover_stores, stores_from, store_data, store_meta, payload_stores, close_sizes, confirmed_by_checksum, confirmed_by_header, size_after, payload_after, mark_of}
+use Rattle.region_words.specs.Rows.{Row, Append, Pack, Clear, Enable, Disable, Restore, Discard, Recover, SizeRepair, MayBegin, events_of, append_stores, write_back_stores, switch_stores, recover_stores, stores_from, store_data, store_meta, payload_stores, close_sizes, confirmed_by_checksum, confirmed_by_header}
 use Rattle.region_words.specs.Standings.{words_of, tail_bytes}
 use Rattle.region_words.specs.Apart.{Apart}
 use Rattle.region_words.specs.Lawful.{Between, Reaches, map_after}
@@ -23,33 +23,14 @@ not_nil : (xs : List What) (y : What) (ys : List What) → xs ++ y ∷ ys ≡ []
 not_nil [] y ys e = absurd cc
 not_nil (x ∷ xs) y ys e = absurd cc
 
-write_back_some : (b c : Bool) (w : ℕ) (y : What) (zs ps cs : List What) → (cond b (Grow w ∷ []) [] ++ y ∷ cond c zs [] ++ ps ++ cs) ≡ [] → ⊥
-write_back_some true c w y zs ps cs e = absurd cc
-write_back_some false c w y zs ps cs e = absurd cc
-
-switch_some : (b : Bool) (w : ℕ) (y z : What) (ps cs : List What) → (cond b (Grow w ∷ []) [] ++ y ∷ z ∷ close_sizes ++ ps ++ cs) ≡ [] → ⊥
-switch_some true w y z ps cs e = absurd cc
-switch_some false w y z ps cs e = absurd cc
-
 -- each row has an event
 some_event : (r : Region) (m : Map) (who : ℕ) (row : Row) → events_of r m who row ≡ [] → ⊥
 unfolding events_of
 some_event r m who (Append a) e = not_nil _ _ _ e
-some_event r m who (Pack now need) e =
-    let row = Pack now need in
-    let wanted = unwrap_or (size_after r m row) 0 in
-    write_back_some (nat_lt (file_size r) wanted) ((record_of r).version == 0) wanted (store_meta 2 ((record_of r).sequence + 1)) (store_meta 1 3 ∷ []) (payload_stores (payload_after r m row)) (confirmed_by_checksum (payload_after r m row) (mark_of r who row)) e
-some_event r m who Clear e =
-    let wanted = unwrap_or (size_after r m Clear) 0 in
-    write_back_some (nat_lt (file_size r) wanted) ((record_of r).version == 0) wanted (store_meta 2 ((record_of r).sequence + 1)) (store_meta 1 3 ∷ []) (payload_stores (payload_after r m Clear)) (confirmed_by_checksum (payload_after r m Clear) (mark_of r who Clear)) e
-some_event r m who (Enable now seconds) e =
-    let row = Enable now seconds in
-    let wanted = unwrap_or (size_after r m row) 0 in
-    switch_some (nat_lt (file_size r) wanted) wanted (store_meta 2 ((record_of r).sequence + 1)) (store_meta 1 4) (payload_stores (payload_after r m row)) (store_meta 26 1 ∷ confirmed_by_header (payload_after r m row) (mark_of r who row)) e
-some_event r m who (Disable now) e =
-    let row = Disable now in
-    let wanted = unwrap_or (size_after r m row) 0 in
-    switch_some (nat_lt (file_size r) wanted) wanted (store_meta 2 ((record_of r).sequence + 1)) (store_meta 1 4) (payload_stores (payload_after r m row)) (store_meta 26 0 ∷ confirmed_by_header (payload_after r m row) (mark_of r who row)) e
+some_event r m who (Pack now need) e = not_nil _ _ _ e
+some_event r m who Clear e = not_nil _ _ _ e
+some_event r m who (Enable now seconds) e = not_nil _ _ _ e
+some_event r m who (Disable now) e = not_nil _ _ _ e
 some_event r m who Restore e = absurd cc
 some_event r m who Discard e = absurd cc
 some_event r m who Recover e = absurd cc

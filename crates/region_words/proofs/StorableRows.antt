@@ -1,6 +1,6 @@
 -- The events of a row may be stored one after another: they lie in the files, and leave an accepted region accepted.
 use Rattle.std.proofs.Common.{◌≡◌, ◌≢◌, ℕ, ◌+◌, ◌-◌, ◌*◌, ◌/◌, ◌%◌, ◌^◌, ◌<◌, ◌≤◌, Bool, true, false, cond, List, [], ◌∷◌, ◌++◌, length, refl, sym, ap, ◌∙◌, arith, subst, inl, inr, append-nil, length-append, length-take}
-use Rattle.std.specs.Prelude.{Option, IsOk, Ok, Err, nat_lt, unwrap_or, replicate, slice_index, ◌&&◌, ◌||◌, ◌==◌}
+use Rattle.std.specs.Prelude.{Option, IsOk, nat_lt, unwrap_or, replicate, slice_index, ◌==◌}
 use Rattle.std.specs.Int.{to_le_bytes, w32}
 use Rattle.std.proofs.lemmas.Bool.Decides.{nat_tests}
 use Rattle.std.proofs.lemmas.List.{get_or_append_left, length-replicate}
@@ -10,14 +10,10 @@ use Rattle.crc_words.proofs.Continued.{continued_is}
 use Rattle.kv_pairs.specs.Growth.{largest}
 use Rattle.change_log.specs.declared.change.Act.{Act}
 use Rattle.meta_record.specs.Words.{word_at, with_word, grown_to}
-use Rattle.meta_record.specs.Records.{record_at, checked, is_fresh}
-use Rattle.meta_record.specs.declared.record.Record.{Record}
-use Rattle.meta_record.specs.declared.record.RecordFault.{RecordFault}
-use Rattle.meta_record.specs.declared.record.RecordFault.TheVariants.{Version, Flags}
-use Rattle.meta_record.specs.declared.shown.Shown.TheVariants.{Whole}
+use Rattle.meta_record.specs.Records.{record_at, checked}
 use Rattle.kv_pairs.proofs.GoodItems.{Small-at, Small-from as bytes_from}
 use Rattle.meta_record.proofs.WordLemmas.{length-with_word, same_word, other_word}
-use Rattle.region_words.specs.Region.{Region, IsRegion, IsAccepted, region_of, record_of, header, flag, file_size, payload_of, shown}
+use Rattle.region_words.specs.Region.{Region, IsRegion, IsAccepted, region_of, record_of, flag, file_size, payload_of}
 use Rattle.region_words.specs.Rows.{IsAppendable, AreBytes, item_of, append_stores, write_back_stores, switch_stores, recover_stores, restore_stores, discard_stores, size_repair_stores, stores_from, store_data, store_meta, payload_stores, close_sizes, confirmed_by_checksum, confirmed_by_header}
 use Rattle.region_words.specs.Standings.{words_of, tail_bytes, standing_of}
 use Rattle.region_words.specs.Lawful.{IsMarkOf}
@@ -30,74 +26,10 @@ use Rattle.region_words.specs.declared.event.What.{What}
 use Rattle.region_words.specs.declared.event.What.TheVariants.{Store, Grow, Lock, Unlock, Died}
 use Rattle.region_words.proofs.WordStores.{Small, Small-take, length-words_of}
 use Rattle.region_words.proofs.Regions.{Small-from_All, All-from_Small, joined_bytes, word_bytes}
-use Rattle.region_words.proofs.Shows.{whole_shown}
 use Rattle.region_words.proofs.RowsStand.{item_bytes}
 use Rattle.region_words.proofs.Changes.{few_flags}
+use Rattle.region_words.proofs.StaysAccepted.{has_version, same_version, other_version, other_flags, kept_flags, same_but_sequence}
 use Rattle.region_words.proofs.GrownFiles.{IsRoomy, IsFound}
-
--- what is accepted by its version alone is so again
-accepted_on : (f g known high : Bool) (e e' k k' : RecordFault) → f ≡ false → IsOk {T = Unit {0}} (cond (f || known) (cond high (Err e) (Ok tt)) (Err k)) →
-    IsOk {T = Unit {0}} (cond (g || known) (cond high (Err e') (Ok tt)) (Err k'))
-accepted_on true g known high e e' k k' a b = absurd cc
-accepted_on false g true true e e' k k' a b = absurd cc
-accepted_on false true true false e e' k k' a b = refl
-accepted_on false false true false e e' k k' a b = refl
-accepted_on false g false high e e' k k' a b = absurd cc
-
--- a header that isn't 0, or a version that isn't, is no fresh store's
-not_fresh : (rec : Record) (h : ℕ) → rec.version ≢ 0 → is_fresh rec h ≡ false
-not_fresh rec h n = go (rec.version == 0) refl
-  where
-    go : (b : Bool) → (rec.version == 0) ≡ b → (b && ((h == 0) && ((rec.checksum == 0) && ((rec.size == 0) && (rec.flags == 0))))) ≡ false
-    go true e = absurd (n (grind (arith, nat_tests)))
-    go false e = refl
-
--- an accepted record has a version where the header isn't 0
-has_version : (rec : Record) (h : ℕ) → h ≢ 0 → IsOk (checked rec h) → rec.version ≢ 0
-has_version rec h n ok e = go (h == 0) refl (subst (λ v. IsOk {T = Unit {0}} (cond (((v == 0) && ((h == 0) && ((rec.checksum == 0) && ((rec.size == 0) && (rec.flags == 0))))) || ((v == 3) || (v == 4))) (cond (nat_lt 1 rec.flags) (Err (Flags rec.flags)) (Ok tt)) (Err (Version v)))) e ok)
-  where
-    go : (b : Bool) → (h == 0) ≡ b → IsOk {T = Unit {0}} (cond ((b && ((rec.checksum == 0) && ((rec.size == 0) && (rec.flags == 0)))) || false) (cond (nat_lt 1 rec.flags) (Err (Flags rec.flags)) (Ok tt)) (Err (Version 0))) → ⊥
-    go true z o = n (grind (arith, nat_tests))
-    go false z o = absurd cc
-
--- a record with the same version and flags is accepted again
-pub same_version : (old new : Record) (h k : ℕ) → new.version ≡ old.version → new.flags ≡ old.flags → old.version ≢ 0 → IsOk (checked old h) → IsOk (checked new k)
-same_version old new h k v f n ok =
-    let again = accepted_on (is_fresh old h) (is_fresh new k) ((old.version == 3) || (old.version == 4)) (nat_lt 1 old.flags) (Flags old.flags) (Flags new.flags) (Version old.version) (Version new.version) (not_fresh old h n) ok in
-    subst (λ x. IsOk {T = Unit {0}} (cond (is_fresh new k || ((x == 3) || (x == 4))) (cond (nat_lt 1 new.flags) (Err (Flags new.flags)) (Ok tt)) (Err (Version new.version)))) (sym v)
-    (subst (λ x. IsOk {T = Unit {0}} (cond (is_fresh new k || ((old.version == 3) || (old.version == 4))) (cond (nat_lt 1 x) (Err (Flags new.flags)) (Ok tt)) (Err (Version new.version)))) (sym f) again)
-
--- and with another version, 3 or 4
-other_version : (old new : Record) (h k w : ℕ) → ((w == 3) || (w == 4)) ≡ true → new.version ≡ w → new.flags ≡ old.flags → IsOk (checked old h) → IsOk (checked new k)
-other_version old new h k w known v f ok =
-    subst (λ x. IsOk {T = Unit {0}} (cond (is_fresh new k || ((x == 3) || (x == 4))) (cond (nat_lt 1 new.flags) (Err (Flags new.flags)) (Ok tt)) (Err (Version new.version)))) (sym v)
-    (subst (λ x. IsOk {T = Unit {0}} (cond (is_fresh new k || x) (cond (nat_lt 1 new.flags) (Err (Flags new.flags)) (Ok tt)) (Err (Version new.version)))) (sym known)
-    (subst (λ x. IsOk {T = Unit {0}} (cond (is_fresh new k || true) (cond (nat_lt 1 x) (Err (Flags new.flags)) (Ok tt)) (Err (Version new.version)))) (sym f)
-    (go (is_fresh old h || ((old.version == 3) || (old.version == 4))) (nat_lt 1 old.flags) (is_fresh new k) ok)))
-  where
-    go : (a b c : Bool) → IsOk {T = Unit {0}} (cond a (cond b (Err (Flags old.flags)) (Ok tt)) (Err (Version old.version))) → IsOk {T = Unit {0}} (cond (c || true) (cond b (Err (Flags new.flags)) (Ok tt)) (Err (Version new.version)))
-    go true false true o = refl
-    go true false false o = refl
-    go true true c o = absurd cc
-    go false b c o = absurd cc
-
--- and with other flags, of which none is unknown
-other_flags : (old new : Record) (h k : ℕ) → new.version ≡ old.version → new.flags ≤ 1 → old.version ≢ 0 → IsOk (checked old h) → IsOk (checked new k)
-other_flags old new h k v few n ok =
-    subst (λ x. IsOk {T = Unit {0}} (cond (is_fresh new k || ((x == 3) || (x == 4))) (cond (nat_lt 1 new.flags) (Err (Flags new.flags)) (Ok tt)) (Err (Version new.version)))) (sym v)
-    (go (is_fresh old h) ((old.version == 3) || (old.version == 4)) (nat_lt 1 old.flags) (is_fresh new k) (nat_lt 1 new.flags) (not_fresh old h n) (no_more new.flags few) ok)
-  where
-    no_more : (f : ℕ) → f ≤ 1 → nat_lt 1 f ≡ false
-    no_more f h = grind (arith, nat_tests)
-
-    go : (f known b g c : Bool) → f ≡ false → c ≡ false → IsOk {T = Unit {0}} (cond (f || known) (cond b (Err (Flags old.flags)) (Ok tt)) (Err (Version old.version))) →
-        IsOk {T = Unit {0}} (cond (g || known) (cond c (Err (Flags new.flags)) (Ok tt)) (Err (Version new.version)))
-    go true known b g c e m o = absurd cc
-    go false false b g c e m o = absurd cc
-    go false true true g c e m o = absurd cc
-    go false true false g true e m o = absurd cc
-    go false true false true false e m o = refl
-    go false true false false false e m o = refl
 
 -- words, one after another
 abbrev pub SmallWords : List ℕ → Type 0
@@ -123,11 +55,6 @@ IsQuiet size who (Died torn) = ⊥
 abbrev AreQuiet : ℕ → ℕ → List What → Type 0
 AreQuiet size who [] = Unit {0}
 AreQuiet size who (what ∷ rest) = IsQuiet size who what × AreQuiet size who rest
-
--- what a quiet store leaves
-kept_flags : (meta : List ℕ) (word value : ℕ) → 4 * word + 4 ≤ length meta → word ≢ 26 → word ≢ 27 → (record_at (with_word meta word value)).flags ≡ (record_at meta).flags
-kept_flags meta word value inside n m =
-    λ i. other_word meta word value inside 26 (λ e. n (sym e)) i + 4294967296 * other_word meta word value inside 27 (λ e. m (sym e)) i
 
 -- quiet stores one after another, behind a header that isn't 0
 quiet_storable : (who : ℕ) (events : List What) (body meta : List ℕ) → word_at body 0 ≢ 0 → AreQuiet (length meta) who events → AreStorable (region_of body meta) who events
@@ -190,20 +117,6 @@ known_append_storable r who n a is may room some firm =
     append_storable r (standing_of r n) item (Commit (record { maker = who; act = a })) who is (All-from_Small item (item_bytes (flag r) a may)) room (omega (arith, some))
     (subst (λ x. x < 2 ^ 32) (sym (continued_is (payload_of r n) item)) (crc_below (payload_of r n ++ item))) firm refl
 
--- an accepted region with a whole image that isn't empty has a version
-pub whole_firm : (r : Region) (n : ℕ) → shown r ≡ Whole n → 0 < n → IsAccepted r → (record_of r).version ≢ 0
-whole_firm r n whole some ok e = go ((record_of r).size == 0) refl (subst (λ v. IsOk {T = Unit {0}} (cond (((v == 0) && ((header r == 0) && (((record_of r).checksum == 0) && (((record_of r).size == 0) && ((record_of r).flags == 0))))) || ((v == 3) || (v == 4))) (cond (nat_lt 1 (record_of r).flags) (Err (Flags (record_of r).flags)) (Ok tt)) (Err (Version v)))) e ok)
-  where
-    no : (a b c : Bool) → IsOk {T = Unit {0}} (cond ((a && (b && (false && c))) || false) (cond (nat_lt 1 (record_of r).flags) (Err (Flags (record_of r).flags)) (Ok tt)) (Err (Version 0))) → ⊥
-    no true true c o = absurd cc
-    no true false c o = absurd cc
-    no false b c o = absurd cc
-
-    go : (b : Bool) → ((record_of r).size == 0) ≡ b →
-        IsOk {T = Unit {0}} (cond ((header r == 0) && (((record_of r).checksum == 0) && (b && ((record_of r).flags == 0))) || false) (cond (nat_lt 1 (record_of r).flags) (Err (Flags (record_of r).flags)) (Ok tt)) (Err (Version 0))) → ⊥
-    go true z o = let is : (record_of r).size ≡ 0 = grind (arith, nat_tests) in absurd (omega (arith, is, some, (whole_shown r n whole).0))
-    go false z o = no (header r == 0) ((record_of r).checksum == 0) ((record_of r).flags == 0) o
-
 -- a longer file has the same header
 grown_header : (body : List ℕ) (size : ℕ) → 4 ≤ length body → word_at (grown_to body size) 0 ≡ word_at body 0
 grown_header body size inside =
@@ -214,21 +127,6 @@ grown_header body size inside =
 
 grown_length : (body : List ℕ) (size : ℕ) → length body < size → length (grown_to body size) ≡ size
 grown_length body size more = omega (arith, length-append body (replicate (size - length body) 0), length-replicate {A = ℕ} (size - length body) 0, more)
-
--- the sequence counts for nothing
-same_but_sequence : (meta : List ℕ) (x h : ℕ) → 112 ≤ length meta → checked (record_at (with_word meta 2 x)) h ≡ checked (record_at meta) h
-same_but_sequence meta x h inside =
-    let other = λ (w : ℕ) (n : w ≢ 2). other_word meta 2 x (omega (arith, inside)) w n in
-    let now = record_at (with_word meta 2 x) in
-    λ i. checked (record {
-      checksum = other 0 (omega arith) i;
-      version = other 1 (omega arith) i;
-      sequence = now.sequence;
-      size = other 7 (omega arith) i;
-      last_size = now.last_size;
-      last_checksum = now.last_checksum;
-      flags = other 26 (omega arith) i + 4294967296 * other 27 (omega arith) i;
-    }) h
 
 -- the events of a write-back
 module _ (who : ℕ) (new : List ℕ) (mark : Mark) (mine : IsMarkOf who mark) (bytes : Small new) (some : 0 < length new) (short : length new ≤ largest) where

@@ -160,18 +160,19 @@ PackIsMadeFromItsStanding =
     (r : Region) (s : Standing) (m : Map) (who now need : ℕ) → s ≡ standing r →
     events_of r m who (Pack now need) ≡ write_back_by s (applied m (act.Pack now)) need (Commit (record { maker = who; act = act.Pack now }))
 
--- and those of a Clear likewise.
+-- those of a Clear likewise,
 abbrev pub ClearIsMadeFromItsStanding : Type 0
 ClearIsMadeFromItsStanding =
     (r : Region) (s : Standing) (m : Map) (who : ℕ) → s ≡ standing r →
     events_of r m who Clear ≡ write_back_by s (applied m act.Clear) 0 (Commit (record { maker = who; act = act.Clear }))
 
--- Those of an Enable and a Disable likewise.
+-- those of an Enable, which stores the flags 1,
 abbrev pub EnableIsMadeFromItsStanding : Type 0
 EnableIsMadeFromItsStanding =
     (r : Region) (s : Standing) (m : Map) (who now seconds : ℕ) → s ≡ standing r →
     events_of r m who (Enable now seconds) ≡ switch_by s true 1 (applied m (act.Enable now seconds)) (Commit (record { maker = who; act = act.Enable now seconds }))
 
+-- and those of a Disable, which stores the flags 0.
 abbrev pub DisableIsMadeFromItsStanding : Type 0
 DisableIsMadeFromItsStanding =
     (r : Region) (s : Standing) (m : Map) (who now : ℕ) → s ≡ standing r →
