@@ -12,7 +12,7 @@ use Rattle.kv_pairs.specs.Growth.{largest}
 use Rattle.meta_record.specs.Words.{word_at, with_word, grown_to}
 use Rattle.meta_record.specs.Records.{record_at}
 use Rattle.meta_record.proofs.WordLemmas.{length-with_word}
-use Rattle.region_words.specs.Region.{Region, IsRegion, IsAccepted, record_of, flag, file_size, payload_of}
+use Rattle.region_words.specs.Region.{Region, IsRegion, IsAccepted, record_of, header, flag, file_size, payload_of}
 use Rattle.region_words.specs.Past.{after_all}
 use Rattle.region_words.specs.Rows.{Row, Append, Pack, Clear, Enable, Disable, Restore, Discard, Recover, SizeRepair, MayBegin, CanRewrite, write_back_stores, AreBytes, events_of, standing, size_after, payload_after, need_of, row_map, store_meta, flag_after, payload_stores, close_sizes, closed_size, switch_stores, recover_stores, confirmed_by_checksum, confirmed_by_header, mark_of}
 use Rattle.region_words.specs.Standings.{standing_of, words_of, tail_of}
@@ -23,7 +23,7 @@ use Rattle.region_words.proofs.WordStores.{Small, stored, tail_stored, length-st
 use Rattle.region_words.proofs.Regions.{Small-from_All}
 use Rattle.region_words.proofs.Appended.{after_all-append, after_all-stores}
 use Rattle.region_words.proofs.WordsSet.{Setting, set_to, set_all, last_set, AreWords, word-set_all}
-use Rattle.region_words.proofs.Changes.{few_flags}
+use Rattle.region_words.proofs.StaysAccepted.{few_flags}
 use Rattle.region_words.proofs.TextProofs.{text_laws}
 use Rattle.region_words.proofs.GrownFiles.{IsFound, grown_roomy}
 
@@ -284,10 +284,10 @@ pub switch_leaves : (r : Region) (m : Map) (room : Option ℕ) (who : ℕ) (row 
 unfolding events_of
 switch_leaves r m room who (Enable now seconds) is ok w b bytes =
     switch_left r m (Enable now seconds) (mark_of r who (Enable now seconds)) is b.3 bytes 1 true (omega arith)
-    (let none : word_at r.meta_bytes 27 ≡ 0 = omega (arith, few_flags r ok) in ap (λ k. (1 + 4294967296 * k) == 1) none)
+    (let none : word_at r.meta_bytes 27 ≡ 0 = omega (arith, few_flags (record_of r) (header r) ok) in ap (λ k. (1 + 4294967296 * k) == 1) none)
 switch_leaves r m room who (Disable now) is ok w b bytes =
     switch_left r m (Disable now) (mark_of r who (Disable now)) is b.2 bytes 0 false (omega arith)
-    (let none : word_at r.meta_bytes 27 ≡ 0 = omega (arith, few_flags r ok) in ap (λ k. (0 + 4294967296 * k) == 1) none)
+    (let none : word_at r.meta_bytes 27 ≡ 0 = omega (arith, few_flags (record_of r) (header r) ok) in ap (λ k. (0 + 4294967296 * k) == 1) none)
 switch_leaves r m room who (Append a) is ok w b bytes = absurd w
 switch_leaves r m room who (Pack now need) is ok w b bytes = absurd w
 switch_leaves r m room who Clear is ok w b bytes = absurd w

@@ -59,7 +59,7 @@ other_flags old new h k v few n ok =
     go false true false false false e m o = refl
 
 -- an accepted record has flags 0 or 1
-few_flags : (rec : Record) (h : ℕ) → IsOk (checked rec h) → rec.flags ≤ 1
+pub few_flags : (rec : Record) (h : ℕ) → IsOk (checked rec h) → rec.flags ≤ 1
 few_flags rec h ok = go (is_fresh rec h || is_known rec.version) (nat_lt 1 rec.flags) refl ok
   where
     go : (a b : Bool) → nat_lt 1 rec.flags ≡ b → Passes a b rec → rec.flags ≤ 1
@@ -84,7 +84,7 @@ other_version old new h k w known v f ok =
     go true true c o = absurd cc
     go false b c o = absurd cc
 
--- a store behind the version and before the flags leaves the flags
+-- a store of another word leaves the flags
 pub kept_flags : (meta : List ℕ) (word value : ℕ) → 4 * word + 4 ≤ length meta → word ≢ 26 → word ≢ 27 → (record_at (with_word meta word value)).flags ≡ (record_at meta).flags
 kept_flags meta word value inside n m =
     λ i. other_word meta word value inside 26 (λ e. n (sym e)) i + 4294967296 * other_word meta word value inside 27 (λ e. m (sym e)) i

@@ -27,8 +27,7 @@ use Rattle.region_words.specs.declared.event.What.TheVariants.{Store, Grow, Lock
 use Rattle.region_words.proofs.WordStores.{Small, Small-take, length-words_of}
 use Rattle.region_words.proofs.Regions.{Small-from_All, All-from_Small, joined_bytes, word_bytes}
 use Rattle.region_words.proofs.RowsStand.{item_bytes}
-use Rattle.region_words.proofs.Changes.{few_flags}
-use Rattle.region_words.proofs.StaysAccepted.{has_version, same_version, other_version, other_flags, kept_flags, same_but_sequence}
+use Rattle.region_words.proofs.StaysAccepted.{few_flags, has_version, same_version, other_version, other_flags, kept_flags, same_but_sequence}
 use Rattle.region_words.proofs.GrownFiles.{IsRoomy, IsFound}
 
 -- words, one after another
@@ -277,7 +276,7 @@ module _ (who : ℕ) (new : List ℕ) (mark : Mark) (mine : IsMarkOf who mark) (
       let high : word_at (with_word meta 26 flags) 27 ≡ word_at meta 27 = other_word meta 26 flags here 27 (omega arith) in (
         (here, omega (arith, few), (λ e. absurd (omega (arith, e))), tt),
         (λ ok.
-            let old = few_flags (region_of body meta) ok in
+            let old = few_flags (record_at meta) (word_at body 0) ok in
             other_flags (record_at meta) (record_at (with_word meta 26 flags)) (word_at body 0) (word_at body 0) version (omega (arith, low, high, old, few)) n ok),
         mild_storable who (confirmed_by_header new mark) body (with_word meta 26 flags) (λ e. n (sym version ∙ e)) (opens (length body) (length (with_word meta 26 flags)) four (omega (arith, inside, length-with_word meta 26 flags here))),
       )
