@@ -10,7 +10,7 @@ use Rattle.meta_record.specs.Records.{agrees}
 use Rattle.meta_record.specs.declared.shown.Shown.TheVariants.{Whole}
 use Rattle.meta_record.proofs.WordLemmas.{length-with_word, same_word, other_word}
 use Rattle.region_words.specs.Region.{Region, record_of, flag, payload_of, shown, map_in}
-use Rattle.region_words.specs.Past.{region_step}
+use Rattle.region_words.specs.Past.{region_step, after_all}
 use Rattle.region_words.specs.Rows.{stores_from, store_data, store_meta}
 use Rattle.region_words.specs.Standings.{words_of}
 use Rattle.region_words.proofs.OfRegion.{append_to, tail_stores}
@@ -30,58 +30,53 @@ both p q = cc
 itself : (n : ℕ) → (n == n) ≡ true
 itself n = grind (arith, nat_tests)
 
--- the region after these events, the first of them first
-abbrev pub after : Region → List What → Region
-after r [] = r
-after r (what ∷ rest) = after (region_step r what) rest
+pub after_all-append : (r : Region) (xs ys : List What) → after_all r (xs ++ ys) ≡ after_all (after_all r xs) ys
+after_all-append r [] ys = refl
+after_all-append r (x ∷ xs) ys = after_all-append (region_step r x) xs ys
 
-after-append : (r : Region) (xs ys : List What) → after r (xs ++ ys) ≡ after (after r xs) ys
-after-append r [] ys = refl
-after-append r (x ∷ xs) ys = after-append (region_step r x) xs ys
-
-after-stores : (r : Region) (w : ℕ) (vs : List ℕ) → after r (stores_from w vs) ≡ record r { data_bytes = stored r.data_bytes w vs }
-after-stores r w [] = refl
-after-stores r w (v ∷ vs) = after-stores (region_step r (store_data w v)) (w + 1) vs
+pub after_all-stores : (r : Region) (w : ℕ) (vs : List ℕ) → after_all r (stores_from w vs) ≡ record r { data_bytes = stored r.data_bytes w vs }
+after_all-stores r w [] = refl
+after_all-stores r w (v ∷ vs) = after_all-stores (region_step r (store_data w v)) (w + 1) vs
 
 module _ (r : Region) (n : ℕ) (item : List ℕ) (mark : Mark)
     (pages : length r.data_bytes % 4 ≡ 0) (meta_size : 112 ≤ length r.meta_bytes)
     (small : Small (payload_of r n ++ item)) (room : 4 + (n + length item) ≤ length r.data_bytes) (most : length r.data_bytes ≤ 2 ^ 26) where
-  abbrev new : List ℕ
+  abbrev pub new : List ℕ
   new = payload_of r n ++ item
 
   abbrev words : List ℕ
   words = stored r.data_bytes (1 + n / 4) (words_of (drop (4 * (n / 4)) new))
 
-  abbrev ended : Region
+  abbrev pub ended : Region
   ended = record { data_bytes = with_word words 0 (length new); meta_bytes = with_word (with_word r.meta_bytes 0 (crc new)) 7 (length new) }
 
   old_size : length (payload_of r n) ≡ n
   old_size = omega (arith, length-take n (drop 4 r.data_bytes), length-drop 4 r.data_bytes, room)
 
-  new_size : length new ≡ n + length item
+  pub new_size : length new ≡ n + length item
   new_size = omega (arith, length-append (payload_of r n) item, old_size)
 
   last_stores : List What
   last_stores = store_data 0 (length new) ∷ Store Meta 0 (crc new) mark ∷ store_meta 7 (length new) ∷ []
 
-  ends : after r (append_to (payload_of r n) item mark) ≡ ended
+  pub ends : after_all r (append_to (payload_of r n) item mark) ≡ ended
   unfolding last_stores
   ends =
-      after-append r (tail_stores (length (payload_of r n)) new) last_stores
-      ∙ ap (λ z. after z last_stores) (after-stores r (1 + length (payload_of r n) / 4) (words_of (drop (4 * (length (payload_of r n) / 4)) new)))
-      ∙ ap (λ k. after (record r { data_bytes = stored r.data_bytes (1 + k / 4) (words_of (drop (4 * (k / 4)) new)) }) last_stores) old_size
+      after_all-append r (tail_stores (length (payload_of r n)) new) last_stores
+      ∙ ap (λ z. after_all z last_stores) (after_all-stores r (1 + length (payload_of r n) / 4) (words_of (drop (4 * (length (payload_of r n) / 4)) new)))
+      ∙ ap (λ k. after_all (record r { data_bytes = stored r.data_bytes (1 + k / 4) (words_of (drop (4 * (k / 4)) new)) }) last_stores) old_size
 
   words_size : length words ≡ length r.data_bytes
   words_size = length-stored r.data_bytes (1 + n / 4) (words_of (drop (4 * (n / 4)) new))
       (omega (arith, length-words_of (drop (4 * (n / 4)) new), length-drop (4 * (n / 4)) new, new_size, room, pages))
 
-  data_size : length ended.data_bytes ≡ length r.data_bytes
+  pub data_size : length ended.data_bytes ≡ length r.data_bytes
   data_size = length-with_word words 0 (length new) (omega (arith, words_size, room)) ∙ words_size
 
   meta_kept : length (with_word r.meta_bytes 0 (crc new)) ≡ length r.meta_bytes
   meta_kept = length-with_word r.meta_bytes 0 (crc new) (omega (arith, meta_size))
 
-  size_stored : word_at ended.meta_bytes 7 ≡ length new
+  pub size_stored : word_at ended.meta_bytes 7 ≡ length new
   size_stored = same_word (with_word r.meta_bytes 0 (crc new)) 7 (length new) (omega (arith, meta_kept, meta_size)) (omega (arith, new_size, room, most))
 
   checksum_stored : word_at ended.meta_bytes 0 ≡ crc new
@@ -99,12 +94,12 @@ module _ (r : Region) (n : ℕ) (item : List ℕ) (mark : Mark)
   fits_ended : fits ended.data_bytes (length new) ≡ true
   fits_ended = at_most_true (4 + length new) (length ended.data_bytes) (omega (arith, data_size, new_size, room))
 
-  kept : (x : ℕ) → x ≢ 0 → x ≢ 7 → word_at ended.meta_bytes x ≡ word_at r.meta_bytes x
+  pub kept : (x : ℕ) → x ≢ 0 → x ≢ 7 → word_at ended.meta_bytes x ≡ word_at r.meta_bytes x
   kept x n0 n7 =
       other_word (with_word r.meta_bytes 0 (crc new)) 7 (length new) (omega (arith, meta_kept, meta_size)) x n7
       ∙ other_word r.meta_bytes 0 (crc new) (omega (arith, meta_size)) x n0
 
-  same_flag : flag ended ≡ flag r
+  pub same_flag : flag ended ≡ flag r
   same_flag = λ i. (kept 26 (omega arith) (omega arith) i + 4294967296 * kept 27 (omega arith) (omega arith) i) == 1
 
   agrees_new : agrees ended.data_bytes (length new) (crc new) ≡ true
@@ -117,5 +112,5 @@ module _ (r : Region) (n : ℕ) (item : List ℕ) (mark : Mark)
   map_ended h = (λ i. is_some (map_in (same_flag i) (payload_of ended (size_stored i)))) ∙ ap (λ bytes. is_some (map_in (flag r) bytes)) content_ended ∙ h
 
   -- the region after an append shows the longer payload
-  pub appended_whole : is_some (map_in (flag r) new) ≡ true → shown (after r (append_to (payload_of r n) item mark)) ≡ Whole (length new)
+  pub appended_whole : is_some (map_in (flag r) new) ≡ true → shown (after_all r (append_to (payload_of r n) item mark)) ≡ Whole (length new)
   appended_whole has_map = ap shown ends ∙ shows_whole ended agrees_ended (map_ended has_map) ∙ ap Whole size_stored

@@ -4,17 +4,15 @@ use Rattle.std.specs.Int.{to_le_bytes, w32}
 use Rattle.std.proofs.lemmas.List.{drop-append-le}
 use Rattle.crc_words.specs.Crc.{crc, crc_from}
 use Rattle.crc_words.proofs.Continued.{continued_is}
-use Rattle.std.specs.Prelude.{All, Bool, true, false, Option, unwrap_or}
-use Rattle.std.specs.FinMap as fin
+use Rattle.std.specs.Prelude.{All, true, false, unwrap_or}
 use Rattle.expiring_map.specs.Map.{Map}
-use Rattle.kv_pairs.specs.Mapped.{packed}
-use Rattle.kv_pairs.specs.Growth.{grown_size}
 use Rattle.change_log.specs.Acts.{applied}
 use Rattle.change_log.specs.declared.change.Act.TheVariants as act
 use Rattle.meta_record.specs.declared.shown.Shown.TheVariants.{Whole}
 use Rattle.change_log.specs.declared.change.Act.{Act}
 use Rattle.region_words.specs.Region.{Region, record_of, flag, payload_of, shown, size_shown, size_of}
-use Rattle.region_words.specs.Rows.{Row, Append, Pack, Clear, Enable, Disable, Restore, Discard, Recover, SizeRepair, events_of, standing, append_stores, write_back_stores, switch_stores, item_of, mark_of, stores_from, store_data, store_meta}
+use Rattle.region_words.specs.Rows.{Row, Append, Pack, Clear, Enable, Disable, Restore, Discard, Recover, SizeRepair, events_of, standing, append_stores, item_of, mark_of, stores_from, store_data, store_meta}
+use Rattle.region_words.specs.Making.{write_back_by, switch_by}
 use Rattle.region_words.proofs.OfRegion.{append_to}
 use Rattle.region_words.specs.Standings.{IsStandingOf, standing_of, first_of, words_of, tail_bytes}
 use Rattle.region_words.specs.declared.standing.Standing.{Standing}
@@ -79,6 +77,11 @@ module _ (r : Region) (n : ℕ) (bytes : All (λ b. b < 256) (drop 4 r.data_byte
       Small-drop (4 * (length old / 4)) old (Small-take (record_of r).size (drop 4 r.data_bytes) (Small-from_All (drop 4 r.data_bytes) bytes)) in
       ap (λ w. take (n % 4) (to_le_bytes w32 w)) word ∙ few_bytes last_bytes (n % 4) small size (omega arith)
 
+  -- the tail is what the payload's last word shares with what comes next
+  pub tail_stands : tail_bytes s ≡ drop (4 * (length old / 4)) old
+  unfolding last_bytes
+  tail_stands = tail_is
+
   stores_are : (item : List ℕ) (mark : Mark) → append_stores s item mark ≡ append_to old item mark
   unfolding last_bytes
   stores_are item mark =
@@ -102,16 +105,6 @@ append_by_known r s whole stands m who a =
     let size : size_shown r ≡ s.size = ap (λ z. unwrap_or (size_of z) 0) whole in
     ap (λ z. append_stores (standing_of r z) (item_of (flag r) a) (mark_of r who (Append a))) size
     ∙ ap (λ (t : Standing). append_stores t (item_of t.flag a) (mark_of r who (Append a))) (sym stands.known)
-
--- the size of the file after a rewrite, from what is known of the image, the file's size included
-abbrev pub size_by : Standing → Bool → Map → ℕ → Option ℕ
-size_by s flag m need = grown_size (length (packed flag m)) need (fin.len m) s.file_size
-
-abbrev pub write_back_by : Standing → Map → ℕ → Mark → List What
-write_back_by s m need mark = write_back_stores s (size_by s s.flag m need) (packed s.flag m) mark
-
-abbrev pub switch_by : Standing → Bool → ℕ → Map → Mark → List What
-switch_by s flag flags m mark = switch_stores s (size_by s flag m 0) flags (packed flag m) mark
 
 -- the events of the rows that a writer makes
 abbrev pub row_by : Standing → Map → ℕ → Row → List What

@@ -1,14 +1,11 @@
 -- What an event changes of a view.
 use Rattle.std.proofs.Common.{◌≡◌, ℕ, zero, suc, ◌+◌, ◌*◌, ◌-◌, ◌^◌, ◌<◌, ◌≤◌, Bool, true, false, List, [], ◌∷◌, ◌++◌, length, take, drop, refl, ap, ◌∙◌, arith, length-append}
-use Rattle.std.specs.Prelude.{Some, None, IsOk, Ok, Err, nat_lt, replicate, ◌==◌, ◌||◌, if◌then◌else◌}
+use Rattle.std.specs.Prelude.{Some, None, replicate, ◌==◌, if◌then◌else◌}
 use Rattle.std.specs.Int.{to_le_bytes, w32}
 use Rattle.std.proofs.lemmas.Bool.Decides.{nat_tests}
 use Rattle.lock_rules.specs.Locks.{Locks}
 use Rattle.meta_record.specs.Words.{word_at, with_word}
 use Rattle.std.proofs.lemmas.List.{drop-append-le, length-replicate}
-use Rattle.meta_record.specs.declared.record.RecordFault.{RecordFault}
-use Rattle.meta_record.specs.declared.record.RecordFault.TheVariants.{Version, Flags}
-use Rattle.meta_record.specs.Records.{is_fresh}
 use Rattle.meta_record.proofs.WordLemmas.{same_word, other_word, length-with_word}
 use Rattle.region_words.specs.Region.{Region, header, record_of, flag, IsAccepted}
 use Rattle.region_words.specs.Past.{region_step}
@@ -16,6 +13,7 @@ use Rattle.region_words.specs.Lawful.{IsPossible}
 use Rattle.region_words.specs.declared.event.Side.TheVariants.{Data, Meta}
 use Rattle.region_words.specs.declared.event.What.{What}
 use Rattle.region_words.specs.declared.event.What.TheVariants.{Store, Grow, Lock, Unlock, Died}
+use Rattle.region_words.proofs.StaysAccepted.{few_flags}
 use Rattle.region_words.proofs.View.{View, view}
 
 abbrev pub meta_set : View → ℕ → ℕ → View
@@ -45,29 +43,17 @@ after v (Lock kind) = v
 after v Unlock = v
 
 -- one word of the meta file
-word_set : (bytes : List ℕ) (w x k : ℕ) → 4 * w + 4 ≤ length bytes → x < 2 ^ 32 → word_at (with_word bytes w x) k ≡ (if w == k then x else word_at bytes k)
+pub word_set : (bytes : List ℕ) (w x k : ℕ) → 4 * w + 4 ≤ length bytes → x < 2 ^ 32 → word_at (with_word bytes w x) k ≡ (if w == k then x else word_at bytes k)
 word_set bytes w x k inside small = go (w == k) refl
   where
     go : (b : Bool) → (w == k) ≡ b → word_at (with_word bytes w x) k ≡ (if b then x else word_at bytes k)
     go true e = let same : k ≡ w = grind (arith, nat_tests) in ap (word_at (with_word bytes w x)) same ∙ same_word bytes w x inside small
     go false e = other_word bytes w x inside k (grind (arith, nat_tests))
 
--- an accepted record has flags 0 or 1
-few_flags : (r : Region) → IsAccepted r → (record_of r).flags ≤ 1
-few_flags r a = not_above (record_of r).flags (go (is_fresh (record_of r) (header r) || (((record_of r).version == 3) || ((record_of r).version == 4))) (nat_lt 1 (record_of r).flags) a)
-  where
-    go : (b c : Bool) → IsOk {T = Unit {0}} {E = RecordFault} (if b then (if c then Err (Flags (record_of r).flags) else Ok tt) else Err (Version (record_of r).version)) → c ≡ false
-    go true true o = absurd cc
-    go true false o = refl
-    go false c o = absurd cc
-
-    not_above : (n : ℕ) → nat_lt 1 n ≡ false → n ≤ 1
-    not_above n e = grind (arith, nat_tests)
-
 flag_set : (r : Region) (w x : ℕ) → 4 * w + 4 ≤ length r.meta_bytes → x < 2 ^ 32 → IsAccepted r → IsAccepted (record r { meta_bytes = with_word r.meta_bytes w x }) →
     flag (record r { meta_bytes = with_word r.meta_bytes w x }) ≡ (if w == 26 then x == 1 else flag r)
 flag_set r w x inside small a b =
-    go (w == 26) (w == 27) (word_at r.meta_bytes 26) (word_at r.meta_bytes 27) _ _ (few_flags r a) (few_flags (record r { meta_bytes = with_word r.meta_bytes w x }) b)
+    go (w == 26) (w == 27) (word_at r.meta_bytes 26) (word_at r.meta_bytes 27) _ _ (few_flags (record_of r) (header r) a) (few_flags (record_of (record r { meta_bytes = with_word r.meta_bytes w x })) (header r) b)
     (word_set r.meta_bytes w x 26 inside small) (word_set r.meta_bytes w x 27 inside small) (both w)
   where
     both : (w : ℕ) → (w == 26) ≡ true → (w == 27) ≡ true → ⊥

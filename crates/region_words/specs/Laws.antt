@@ -1,20 +1,27 @@
 -- The laws of a region that several openers change.
-use Rattle.std.specs.Prelude.{◌≡◌, ℕ, ◌+◌, ◌≤◌, List, ◌∷◌, ◌++◌, Option, Some, None, true}
+use Rattle.std.specs.Prelude.{◌≡◌, ℕ, ◌+◌, ◌^◌, ◌<◌, ◌≤◌, Bool, List, ◌∷◌, ◌++◌, Option, Some, None, true, false, length, ◌==◌, if◌then◌else◌}
 use Rattle.std.specs.List.{AllByRecursion}
 use Rattle.crc_words.specs.Crc.{crc_from}
 use Rattle.expiring_map.specs.Map.{Map}
-use Rattle.change_log.specs.Acts.{replay, is_append}
+use Rattle.kv_pairs.specs.Growth.{largest}
+use Rattle.kv_pairs.specs.Mapped.{packed, IsPackable}
+use Rattle.change_log.specs.Acts.{applied, replay, is_append}
 use Rattle.change_log.specs.declared.change.Act.{Act}
+use Rattle.change_log.specs.declared.change.Act.TheVariants as act
 use Rattle.change_log.specs.declared.change.Change.{Change}
 use Rattle.lock_rules.specs.Locks.{holds}
 use Rattle.meta_record.specs.declared.shown.Shown.TheVariants.{Whole, Last}
-use Rattle.region_words.specs.Region.{Region, IsRegion, IsAccepted, record_of, payload_of, file_size, shown, map_shown, ShowsMap}
-use Rattle.region_words.specs.Past.{region_after, changes_of, locks_after, NoneOf}
-use Rattle.region_words.specs.Rows.{Append, Restore, Row, MayBegin}
+use Rattle.region_words.specs.Region.{Region, IsRegion, IsAccepted, record_of, flag, payload_of, file_size, shown, map_shown, ShowsMap}
+use Rattle.region_words.specs.Past.{region_after, after_all, changes_of, locks_after, NoneOf}
+use Rattle.region_words.specs.Rows.{Append, Pack, Clear, Enable, Disable, Restore, Recover, Row, MayBegin, HasRoom, IsAppendable, AreBytes, append_stores, events_of, flag_after, item_of, payload_after, size_after, standing}
+use Rattle.region_words.specs.Standings.{standing_of, IsStandingOf}
 use Rattle.region_words.specs.Apart.{Apart}
 use Rattle.region_words.specs.Lawful.{Lawful, Phase, Between, Within, Reaches, MayTear, map_after}
 use Rattle.region_words.specs.Outcome.{AtRest, ShowsHistory, confirmed, HasConfirmed}
 use Rattle.region_words.specs.Images.{image_of, IsKept, SameImage, LoadsOn, bytes_behind, sequence_at, checksum_at}
+use Rattle.region_words.specs.Making.{write_back_by, switch_by, appended_standing, rewritten_standing, IsWriteBack, IsSwitch}
+use Rattle.region_words.specs.declared.standing.Standing.{Standing}
+use Rattle.region_words.specs.declared.event.Mark.TheVariants.{Commit}
 use Rattle.region_words.specs.declared.event.TornWord.{TornWord}
 use Rattle.region_words.specs.declared.event.What.TheVariants.{Died}
 use Rattle.region_words.specs.declared.event.Event.{Event}
@@ -140,3 +147,87 @@ WholeImagesGoOn =
     IsKept start past n m → sequence_at start (later ++ past) ≡ sequence_at start past →
     shown (region_after start (later ++ past)) ≡ Whole size →
     ((record_of (region_after start (later ++ past))).size ≡ size) × GoesOn start past n (region_after start (later ++ past))
+
+-- The events of an append are worked out from what is known of the image, even if the file has grown meanwhile.
+abbrev pub AppendIsMadeFromItsStanding : Type 0
+AppendIsMadeFromItsStanding =
+    (r : Region) (s : Standing) (m : Map) (who : ℕ) (a : Act) → shown r ≡ Whole s.size → IsStandingOf r s.size s →
+    events_of r m who (Append a) ≡ append_stores s (item_of s.flag a) (Commit (record { maker = who; act = a }))
+
+-- The events of a Pack are worked out from all that is known of the image and from the map that it leaves,
+abbrev pub PackIsMadeFromItsStanding : Type 0
+PackIsMadeFromItsStanding =
+    (r : Region) (s : Standing) (m : Map) (who now need : ℕ) → s ≡ standing r →
+    events_of r m who (Pack now need) ≡ write_back_by s (applied m (act.Pack now)) need (Commit (record { maker = who; act = act.Pack now }))
+
+-- those of a Clear likewise,
+abbrev pub ClearIsMadeFromItsStanding : Type 0
+ClearIsMadeFromItsStanding =
+    (r : Region) (s : Standing) (m : Map) (who : ℕ) → s ≡ standing r →
+    events_of r m who Clear ≡ write_back_by s (applied m act.Clear) 0 (Commit (record { maker = who; act = act.Clear }))
+
+-- those of an Enable, which stores the flags 1,
+abbrev pub EnableIsMadeFromItsStanding : Type 0
+EnableIsMadeFromItsStanding =
+    (r : Region) (s : Standing) (m : Map) (who now seconds : ℕ) → s ≡ standing r →
+    events_of r m who (Enable now seconds) ≡ switch_by s true 1 (applied m (act.Enable now seconds)) (Commit (record { maker = who; act = act.Enable now seconds }))
+
+-- and those of a Disable, which stores the flags 0.
+abbrev pub DisableIsMadeFromItsStanding : Type 0
+DisableIsMadeFromItsStanding =
+    (r : Region) (s : Standing) (m : Map) (who now : ℕ) → s ≡ standing r →
+    events_of r m who (Disable now) ≡ switch_by s false 0 (applied m (act.Disable now)) (Commit (record { maker = who; act = act.Disable now }))
+
+-- After an append to a whole image the longer image is known by the old standing and the item.
+abbrev pub AppendLeavesItsStanding : Type 0
+AppendLeavesItsStanding =
+    (r : Region) (m : Map) (who n : ℕ) (a : Act) → IsRegion r → shown r ≡ Whole n → HasRoom r n (length (item_of (flag r) a)) → IsAppendable (flag r) a →
+    let t = after_all r (events_of r m who (Append a)) in
+    let size = n + length (item_of (flag r) a) in
+    ((record_of t).size ≡ size) × (standing_of t size ≡ appended_standing (standing r) (item_of (flag r) a))
+
+-- After a write-back of bytes the new image is known by the old standing, the size of the file, and the new payload.
+abbrev pub WriteBackLeavesItsStanding : Type 0
+WriteBackLeavesItsStanding =
+    (r : Region) (m : Map) (room : Option ℕ) (who : ℕ) (row : Row) → IsRegion r → IsWriteBack row → MayBegin r m room row → AreBytes (payload_after r m row) →
+    let new = payload_after r m row in
+    let t = after_all r (events_of r m who row) in
+    ((record_of t).size ≡ length new)
+    × (standing_of t (length new) ≡ rewritten_standing (standing r) (if (record_of r).version == 0 then 3 else (record_of r).version) (flag r) (size_after r m row) new)
+
+-- After a switch of the flag in an accepted region it is known so too: the version is 4, and the flag the new one.
+abbrev pub SwitchLeavesItsStanding : Type 0
+SwitchLeavesItsStanding =
+    (r : Region) (m : Map) (room : Option ℕ) (who : ℕ) (row : Row) → IsRegion r → IsAccepted r → IsSwitch row → MayBegin r m room row → AreBytes (payload_after r m row) →
+    let new = payload_after r m row in
+    let t = after_all r (events_of r m who row) in
+    ((record_of t).size ≡ length new) × (standing_of t (length new) ≡ rewritten_standing (standing r) 4 (flag_after r row) (size_after r m row) new)
+
+-- After a recovery it is known so too: version and flag are the old ones.
+abbrev pub RecoverLeavesItsStanding : Type 0
+RecoverLeavesItsStanding =
+    (r : Region) (m : Map) (room : Option ℕ) (who : ℕ) → IsRegion r → MayBegin r m room Recover →
+    let new = payload_after r m Recover in
+    let t = after_all r (events_of r m who Recover) in
+    ((record_of t).size ≡ length new) × (standing_of t (length new) ≡ rewritten_standing (standing r) (record_of r).version (flag r) (size_after r m Recover) new)
+
+-- A map is packed to bytes where its pairs can be packed and read again.
+abbrev pub PackedIsBytes : Type 0
+PackedIsBytes = (flag : Bool) (m : Map) → IsPackable flag m → AreBytes (packed flag m)
+
+-- They can in the map that a region shows,
+abbrev pub ShownMapsCanBePacked : Type 0
+ShownMapsCanBePacked = (r : Region) (m : Map) → IsRegion r → map_shown r ≡ Some m → IsPackable (flag r) m
+
+-- in what a put or remove leaves of such a map, if a file has room for its item,
+abbrev pub AppendsCanBePacked : Type 0
+AppendsCanBePacked =
+    (flag : Bool) (m : Map) (a : Act) → IsAppendable flag a → length (item_of flag a) ≤ largest → IsPackable flag m → IsPackable flag (applied m a)
+
+-- and in what a rewrite leaves of it, with the flag that it leaves.
+abbrev pub RewritesCanBePacked : Type 0
+RewritesCanBePacked =
+    (flag : Bool) (m : Map) → IsPackable flag m →
+    ((now : ℕ) → IsPackable flag (applied m (act.Pack now))) × IsPackable flag (applied m act.Clear)
+    × ((now seconds : ℕ) → now + seconds < 2 ^ 32 → IsPackable true (applied m (act.Enable now seconds)))
+    × ((now : ℕ) → IsPackable false (applied m (act.Disable now)))

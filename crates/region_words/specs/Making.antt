@@ -1,7 +1,11 @@
 -- The events of a row that are still to come, made one by one.
-use Rattle.std.specs.Prelude.{◌≡◌, ℕ, ◌+◌, List, [], ◌∷◌, ◌++◌, length, max, Option, unwrap_or, Bool}
+use Rattle.std.specs.Prelude.{◌≡◌, ℕ, ◌+◌, List, [], ◌∷◌, ◌++◌, length, max, Option, unwrap_or, Bool, ⊤}
+use Rattle.std.specs.FinMap as fin
 use Rattle.crc_words.specs.Crc.{crc, crc_from}
-use Rattle.region_words.specs.Rows.{Row}
+use Rattle.expiring_map.specs.Map.{Map}
+use Rattle.kv_pairs.specs.Mapped.{packed}
+use Rattle.kv_pairs.specs.Growth.{grown_size}
+use Rattle.region_words.specs.Rows.{Row, Pack, Clear, Enable, Disable, write_back_stores, switch_stores}
 use Rattle.region_words.specs.Standings.{tail_of, tail_bytes}
 use Rattle.region_words.specs.Share.{ShareState, Goes, stored}
 use Rattle.region_words.specs.Owing.{IsOwing}
@@ -10,6 +14,7 @@ use Rattle.region_words.specs.declared.next.Next.TheVariants as next
 use Rattle.region_words.specs.declared.next.Stored.{Stored}
 use Rattle.region_words.specs.declared.next.Stored.TheVariants.{More, Done}
 use Rattle.region_words.specs.declared.standing.Standing.{Standing}
+use Rattle.region_words.specs.declared.event.Mark.{Mark}
 use Rattle.region_words.specs.declared.event.What.{What}
 use Rattle.region_words.specs.declared.event.What.TheVariants.{Store, Grow}
 
@@ -39,6 +44,18 @@ IsOwingFirst events s = (row : Row) × (more : List What) × IsOwing row (events
 abbrev pub MakesFirst : List What → List What → ShareState → ShareState → Type 0
 MakesFirst old new s t = (first : What) × (old ≡ first ∷ new) × Goes (stored first s) s t
 
+-- the size of the file after a rewrite to this map, from what is known of the image
+abbrev pub size_by : Standing → Bool → Map → ℕ → Option ℕ
+size_by s flag m need = grown_size (length (packed flag m)) need (fin.len m) s.file_size
+
+-- the events that put this map in the image's place, with room for so many bytes
+abbrev pub write_back_by : Standing → Map → ℕ → Mark → List What
+write_back_by s m need mark = write_back_stores s (size_by s s.flag m need) (packed s.flag m) mark
+
+-- and those that also store other flags
+abbrev pub switch_by : Standing → Bool → ℕ → Map → Mark → List What
+switch_by s flag flags m mark = switch_stores s (size_by s flag m 0) flags (packed flag m) mark
+
 -- what is known of an image once an item stands at its end
 abbrev pub appended_standing : Standing → List ℕ → Standing
 appended_standing s item =
@@ -57,3 +74,15 @@ rewritten_standing s version flag size new =
       tail = tail_of new (length new);
       file_size = max s.file_size (unwrap_or size 0);
     }
+
+-- the rows that write a payload in the old one's place and leave the flag as it is
+abbrev pub IsWriteBack : Row → Type 0
+IsWriteBack (Pack now need) = ⊤
+IsWriteBack Clear = ⊤
+IsWriteBack _ = ⊥
+
+-- the rows that write a payload with the other flag
+abbrev pub IsSwitch : Row → Type 0
+IsSwitch (Enable now seconds) = ⊤
+IsSwitch (Disable now) = ⊤
+IsSwitch _ = ⊥

@@ -28,6 +28,11 @@ abbrev pub region_after : Region → List Event → Region
 region_after start [] = start
 region_after start (e ∷ past) = region_step (region_after start past) e.what
 
+-- the region after these events, the first of them first
+abbrev pub after_all : Region → List What → Region
+after_all r [] = r
+after_all r (what ∷ rest) = after_all (region_step r what) rest
+
 abbrev pub committed : Mark → List Change
 committed Plain = []
 committed (Commit change) = change ∷ []

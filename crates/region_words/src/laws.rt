@@ -1,6 +1,9 @@
 // The laws of a region that several openers change: each is the contract of a function that does nothing.
 ghost use Rattle.region_words.specs.Laws.{FrontsAreLawful, FrontsAreApart, StaysARegion, StaysAccepted, RestsWhereFree, HoldersSeeOneRegion};
 ghost use Rattle.region_words.specs.Laws.{ShowsHistoryAtRest, ShowsHistoryWhereFree, ShowsHistoryAfterACutAppend, LastIsConfirmed, LastHasTheHistory, LastIsRestored};
+ghost use Rattle.region_words.specs.Laws.{AppendIsMadeFromItsStanding, PackIsMadeFromItsStanding, ClearIsMadeFromItsStanding, EnableIsMadeFromItsStanding, DisableIsMadeFromItsStanding};
+ghost use Rattle.region_words.specs.Laws.{PackedIsBytes, ShownMapsCanBePacked, AppendsCanBePacked, RewritesCanBePacked};
+ghost use Rattle.region_words.specs.Laws.{AppendLeavesItsStanding, WriteBackLeavesItsStanding, SwitchLeavesItsStanding, RecoverLeavesItsStanding};
 ghost use Rattle.region_words.specs.Laws.{SequenceTellsTheImage, PeeksTellTheImage, PartialLoadsHold, WholeImagesGoOn};
 
 /// A journal is lawful up to each of its events, and its payloads are told apart up to each.
@@ -59,4 +62,30 @@ pub fn equal_peeks_tell_that_nothing_changed()
 pub fn a_partial_load_that_holds_is_whole()
     ensures holds { PartialLoadsHold }
     ensures whole { WholeImagesGoOn }
+{}
+
+/// The events that a maker works out from what it knows of the image are those of the region's row: it need not read the region.
+pub fn a_row_is_made_from_its_standing()
+    ensures append { AppendIsMadeFromItsStanding }
+    ensures pack { PackIsMadeFromItsStanding }
+    ensures clear { ClearIsMadeFromItsStanding }
+    ensures enable { EnableIsMadeFromItsStanding }
+    ensures disable { DisableIsMadeFromItsStanding }
+{}
+
+/// What is known of an image after a row is worked out from what was known before it: nothing is read again.
+pub fn a_row_leaves_its_standing()
+    ensures append { AppendLeavesItsStanding }
+    ensures write_back { WriteBackLeavesItsStanding }
+    ensures switch { SwitchLeavesItsStanding }
+    ensures recover { RecoverLeavesItsStanding }
+{}
+
+/// A map is packed to bytes where its pairs can be packed and read again. They can in the map that a region shows, and in
+/// what puts, removes and rewrites leave of such a map.
+pub fn what_is_packed_is_bytes()
+    ensures bytes { PackedIsBytes }
+    ensures shown { ShownMapsCanBePacked }
+    ensures appended { AppendsCanBePacked }
+    ensures rewritten { RewritesCanBePacked }
 {}

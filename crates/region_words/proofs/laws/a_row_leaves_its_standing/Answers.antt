@@ -1,0 +1,15 @@
+use Rattle.region_words.proofs.LeftStanding.{append_leaves}
+use Rattle.region_words.proofs.Rewritten.{write_back_leaves, switch_leaves, recover_leaves}
+use Rattle.region_words.proofs.laws.a_row_leaves_its_standing.Goals as goal
+
+pub returns-clause-append : goal.returns-clause-append
+returns-clause-append c = λ r m who n a is whole room may. append_leaves r m who n a is whole room may
+
+pub returns-clause-write_back : goal.returns-clause-write_back
+returns-clause-write_back c = λ r m room who row is w may bytes. write_back_leaves r m room who row is w may bytes
+
+pub returns-clause-switch : goal.returns-clause-switch
+returns-clause-switch c = λ r m room who row is ok w may bytes. switch_leaves r m room who row is ok w may bytes
+
+pub returns-clause-recover : goal.returns-clause-recover
+returns-clause-recover c = λ r m room who is may. recover_leaves r m room who is may
