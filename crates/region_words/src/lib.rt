@@ -18,6 +18,8 @@ mod places;
 mod region;
 mod seat;
 mod share;
+#[cfg(test)]
+mod sharing;
 mod shelf;
 mod showing;
 mod sink;
