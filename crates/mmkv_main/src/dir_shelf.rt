@@ -101,3 +101,202 @@ impl<R: Files + AllocGlobal> Shelf for DirShelf<'_, R> {
         brought
     }
 }
+
+#[cfg(test)]
+mod tests {
+    use super::*;
+    use region_words::is_id;
+    use std::alloc::Allocator;
+    use std::fs::{Metadata, OpenOptions};
+    use std::io;
+    use std::io::{Empty, Error, Seek, SeekFrom, Write};
+    use std::process::Abort;
+
+    fn unsupported<T>() -> io::Result<T> {
+        Err(Error::from(ErrorKind::Unsupported))
+    }
+
+    // An open file: how long it says that it is, if it does, and the bytes that a read finds.
+    #[derive(Clone, Copy)]
+    struct Sheet {
+        says: Option<u64>,
+        left: &'static [u8],
+    }
+
+    impl Read for Sheet {
+        fn read(&mut self, buf: &mut [u8]) -> io::Result<usize> {
+            self.left.read(buf)
+        }
+    }
+
+    impl Write for Sheet {
+        fn write(&mut self, _buf: &[u8]) -> io::Result<usize> {
+            Err(Error::from(ErrorKind::Unsupported))
+        }
+
+        fn flush(&mut self) -> io::Result<()> {
+            unsupported()
+        }
+    }
+
+    impl Seek for Sheet {
+        fn seek(&mut self, _to: SeekFrom) -> io::Result<u64> {
+            unsupported()
+        }
+    }
+
+    impl OpenFile for Sheet {
+        fn metadata(&self) -> io::Result<Metadata> {
+            match self.says {
+                Some(len) => Ok(Metadata::of_file(len)),
+                None => unsupported(),
+            }
+        }
+
+        fn set_len(&self, _size: u64) -> io::Result<()> {
+            unsupported()
+        }
+
+        fn sync_all(&self) -> io::Result<()> {
+            unsupported()
+        }
+
+        fn sync_data(&self) -> io::Result<()> {
+            unsupported()
+        }
+    }
+
+    fn whole(bytes: &'static [u8]) -> io::Result<Sheet> {
+        Ok(Sheet {
+            says: Some(bytes.len() as u64),
+            left: bytes,
+        })
+    }
+
+    fn sheet_of(len: u64) -> io::Result<Sheet> {
+        Ok(Sheet {
+            says: Some(len),
+            left: b"abc",
+        })
+    }
+
+    // A disk with a few files, which are read alone.
+    #[derive(Drop)]
+    struct Disk;
+
+    impl Files for Disk {
+        type File = Sheet;
+
+        type Dir = Empty;
+
+        fn open_file(&self, how: &OpenOptions, path: &str) -> io::Result<Sheet> {
+            how.check()?;
+            match path {
+                "home/both" => whole(b"\x01body"),
+                "home/both.crc" => whole(b"meta"),
+                "home/bare" => whole(b"bare"),
+                "home/lone.crc" => whole(b"lone"),
+                "home/empty" | "home/most" | "home/wide" => whole(b""),
+                "home/most.crc" => whole(&[0; 65_536]),
+                "home/wide.crc" => sheet_of(65_537),
+                "home/long" => sheet_of(67_108_865),
+                "home/short" => sheet_of(4),
+                "home/silent" => Ok(Sheet {
+                    says: None,
+                    left: b"abc",
+                }),
+                "home/shut" => Err(Error::from(ErrorKind::PermissionDenied)),
+                "home/half" => whole(b"half"),
+                "home/half.crc" => Err(Error::from(ErrorKind::PermissionDenied)),
+                _ => Err(Error::from(ErrorKind::NotFound)),
+            }
+        }
+
+        fn open_dir(&self, _path: &str) -> io::Result<Empty> {
+            unsupported()
+        }
+
+        fn metadata(&self, _path: &str) -> io::Result<Metadata> {
+            unsupported()
+        }
+
+        fn symlink_metadata(&self, _path: &str) -> io::Result<Metadata> {
+            unsupported()
+        }
+
+        fn copy(&self, _from: &str, _to: &str) -> io::Result<u64> {
+            unsupported()
+        }
+
+        fn rename(&self, _from: &str, _to: &str) -> io::Result<()> {
+            unsupported()
+        }
+
+        fn remove_file(&self, _path: &str) -> io::Result<()> {
+            unsupported()
+        }
+
+        fn create_dir(&self, _path: &str) -> io::Result<()> {
+            unsupported()
+        }
+
+        fn remove_dir(&self, _path: &str) -> io::Result<()> {
+            unsupported()
+        }
+
+        fn remove_dir_all<B: Allocator>(&self, _alloc: B, _path: &str) -> io::Result<()> {
+            unsupported()
+        }
+    }
+
+    // What a shelf answers that is asked twice for a store, and the faults that it has counted by then.
+    fn asked_twice<R: Files + AllocGlobal>(
+        rt: &impl Abort,
+        disk: &R,
+        id: &[u8],
+    ) -> (Result<Brought, ShelfStop>, u64) {
+        assert!(rt; is_id(id));
+        let home = Bytes::copy_of(disk.alloc(), b"home").expect(rt, "ample memory");
+        let mut shelf = DirShelf::new(disk, home);
+        let _ = shelf.bring(id);
+        (shelf.bring(id), shelf.faults)
+    }
+
+    #[test]
+    fn both_files_of_a_store_are_brought_byte_for_byte(rt: HostRuntime) {
+        let disk = (Disk, rt.alloc());
+        let rows: [(&[u8], &[u8], &[u8]); 4] = [
+            (b"both", b"\x01body", b"meta"),
+            (b"bare", b"bare", b""),
+            (b"empty", b"", b""),
+            (b"most", b"", &[0; 65_536]),
+        ];
+        for (id, body, meta) in rows {
+            let (answer, faults) = asked_twice(&rt, &disk, id);
+            let brought = answer.expect(&rt, "a store");
+            assert_eq!(rt; brought.body.as_slice(), body, "of {id:?}");
+            assert_eq!(rt; brought.meta.as_slice(), meta, "of {id:?}");
+            assert_eq!(rt; faults, 0, "of {id:?}");
+        }
+    }
+
+    #[test]
+    fn only_a_file_that_cannot_be_read_is_a_fault(rt: HostRuntime) {
+        let disk = (Disk, rt.alloc());
+        let rows: [(&[u8], _, _); 8] = [
+            (b"none", ShelfStop::Absent, 0),
+            (b"lone", ShelfStop::Absent, 0),
+            (b"long", ShelfStop::SizeRefused(67_108_865), 0),
+            (b"wide", ShelfStop::SizeRefused(65_537), 0),
+            (b"shut", ShelfStop::Failed, 2),
+            (b"short", ShelfStop::Failed, 2),
+            (b"silent", ShelfStop::Failed, 2),
+            (b"half", ShelfStop::Failed, 2),
+        ];
+        for (id, want, faults) in rows {
+            let (answer, counted) = asked_twice(&rt, &disk, id);
+            assert_eq!(rt; answer.err(), Some(want), "at {id:?}");
+            assert_eq!(rt; counted, faults, "at {id:?}");
+        }
+    }
+}

@@ -21,6 +21,8 @@ mod region;
 mod row_maker;
 mod seat;
 mod share;
+#[cfg(test)]
+mod sharing;
 mod shelf;
 mod showing;
 mod sink;
