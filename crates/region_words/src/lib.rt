@@ -6,6 +6,8 @@ mod clock;
 mod copies;
 mod event;
 mod failing;
+#[cfg(test)]
+mod growing;
 mod id;
 mod laws;
 mod listed_events;
