@@ -1,5 +1,5 @@
 -- A load of a region, under way and at its end.
-use Rattle.std.specs.Prelude.{◌≡◌, ℕ, ◌+◌, ◌/◌, ◌%◌, ◌<◌, ◌≤◌, ⊤, Bool, true, false, List, [], Err, length, take, drop, slice_index, nat_lt, if◌then◌else◌}
+use Rattle.std.specs.Prelude.{◌≡◌, ℕ, ◌+◌, ◌/◌, ◌%◌, ◌<◌, ◌≤◌, ⊤, Bool, true, false, List, [], Ok, Err, length, take, drop, slice_index, nat_lt, if◌then◌else◌}
 use Rattle.meta_record.specs.Words.{word_at}
 use Rattle.meta_record.specs.Records.{checked}
 use Rattle.meta_record.specs.declared.record.RecordFault.{RecordFault}
@@ -67,13 +67,20 @@ pub record IsLoadOf (l : Loaded) (r : Region) : Type 0 where
   pub payload : l.payload ≡ take (length l.payload) (drop 4 r.data_bytes)
   pub whole : size_shown r ≤ length l.payload
 
+-- What a load gives, whatever a share tells: the record is accepted, and the image is loaded and lies in a file of whole pages.
+pub record IsLoadedWhole (l : Loaded) : Type 0 where
+  pub accepted : checked l.rec l.header ≡ Ok tt
+  pub size : l.image.standing.size ≤ length l.payload
+  pub within : 4 + length l.payload ≤ l.image.standing.file_size
+  pub file : IsDataSize l.image.standing.file_size
+
 -- what is true of every load, whatever a share tells
 pub record IsLoad (l : Load) : Type 0 where
   pub most : l.first.made ≤ 10
   pub early : l.first.made < 10 → (l.payload ≡ []) × (l.outlook ≡ Wants by.Record)
   pub file : 0 < l.first.made → IsDataSize (size_in l.first)
   pub words : length l.payload % 4 ≡ 0
-  pub within : length l.payload ≤ size_in l.first
+  pub within : 0 < l.first.made → 4 + length l.payload ≤ size_in l.first
   pub accepted : l.first.made ≡ 10 → HasAccepted l.first
   pub due : l.first.made ≡ 10 → IsDue l.first l.payload l.outlook
 

@@ -6,7 +6,7 @@ use Rattle.meta_record.specs.declared.shown.Shown.{Shown}
 use Rattle.meta_record.specs.declared.shown.Shown.TheVariants.{Whole, Header, Last, Damaged}
 use Rattle.region_words.specs.Region.{Region, shown, base}
 use Rattle.region_words.specs.Rows.{standing}
-use Rattle.loader.specs.FirstWords.{record_in, header_in}
+use Rattle.loader.specs.FirstWords.{record_in, header_in, size_in}
 use Rattle.loader.specs.declared.stops.LoadStop.{LoadStop}
 use Rattle.loader.specs.declared.stops.LoadStop.TheVariants as stop
 use Rattle.loader.specs.Candidates.{NoneBefore, IsWanted}
@@ -28,7 +28,7 @@ checksum_of rec (Header size) = rec.checksum
 checksum_of rec (Last size) = rec.last_checksum
 checksum_of rec (Damaged damage) = 0
 
--- this was found is what the region shows
+-- what was found is what the region shows
 pub record IsFoundIn (f : Found) (r : Region) : Type 0 where
   pub shown : f.shown ≡ shown r
   pub standing : f.image.standing ≡ standing r
@@ -39,7 +39,12 @@ abbrev pub IsOutlookOf : Outlook → Region → Type 0
 IsOutlookOf (outlook.Wants c) r = NoneBefore c r
 IsOutlookOf (outlook.Found f) r = IsFoundIn f r
 
--- of what is looked for there is more to load; of what was found all is loaded
+-- what was found is loaded, of a file of this size
+pub record IsLoaded (f : FirstWords) (loaded : List ℕ) (found : Found) : Type 0 where
+  pub size : found.image.standing.size ≤ length loaded
+  pub file : found.image.standing.file_size ≡ size_in f
+
+-- of what is looked for there is more to load; what was found is loaded
 abbrev pub IsDue : FirstWords → List ℕ → Outlook → Type 0
 IsDue f loaded (outlook.Wants c) = IsWanted f loaded c
-IsDue f loaded (outlook.Found found) = found.image.standing.size ≤ length loaded
+IsDue f loaded (outlook.Found found) = IsLoaded f loaded found

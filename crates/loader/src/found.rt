@@ -5,7 +5,7 @@ ghost use Rattle.kv_pairs.specs.Mapped.{map_in};
 ghost use Rattle.region_words.specs.Region.{Region, size_of};
 ghost use Rattle.loader.specs.FirstWords.{AreFirst, standing_in};
 ghost use Rattle.loader.specs.Candidates.{IsFront, ShowsSize};
-ghost use Rattle.loader.specs.Outlooks.{IsFoundIn, checksum_of};
+ghost use Rattle.loader.specs.Outlooks.{IsFoundIn, IsLoaded, checksum_of};
 
 use crate::first_words::FirstWords;
 use crate::loaded::Image;
@@ -31,7 +31,7 @@ pub fn find(
     requires complete { first.now.made ≡ 10 }
     requires small { length payload.now ≤ u32.MAX }
     requires within { IfSome (size_of shown) (λ size. size ≤ length payload.now) }
-    ensures within { IfOk result (λ found. found.image.standing.size ≤ length payload.now) }
+    ensures loaded { IfOk result (IsLoaded first.now payload.now) }
     ensures told { IfOk result (λ found. (r : Region) → AreFirst first.now r → IsFront payload.now r → ShowsSize r shown → IsFoundIn found r) }
 {
     let Some(size) = size_of(shown) else {

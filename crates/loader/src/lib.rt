@@ -8,8 +8,9 @@ mod loaded;
 mod loading;
 mod outlook;
 mod stops;
+#[cfg(test)]
+mod tests;
 
-pub use candidates::Candidate;
 pub use loaded::{Image, Loaded};
 pub use loading::{Loading, Went};
 pub use stops::LoadStop;

@@ -5,7 +5,7 @@ ghost use Rattle.region_words.specs.Past.{region_after};
 ghost use Rattle.region_words.specs.Told.{OnTold};
 ghost use Rattle.region_words.specs.Share.{IsSound, Goes, Stops, loaded};
 ghost use Rattle.loader.specs.FirstWords.{HasAccepted, IsDataSize, first_answers, size_in};
-ghost use Rattle.loader.specs.Loads.{Load, HasLoaded, loads_of, next_answer, next_payload_word, is_done, Says, IsLoadOf, StopsLoading, Refuses, IsTenthIfRecord};
+ghost use Rattle.loader.specs.Loads.{Load, HasLoaded, loads_of, next_answer, next_payload_word, is_done, Says, IsLoadOf, IsLoadedWhole, StopsLoading, Refuses, IsTenthIfRecord};
 
 use crate::candidates::Candidate;
 use crate::first_words::FirstWords;
@@ -74,6 +74,8 @@ impl Loading {
         ensures goes { OnOk result (Goes (loaded (S.state share.old)) (S.state share.old) (S.state share.new)) }
         ensures loads { OnOk result (loads_of self.new ≡ loads_of self.old + 1) }
         ensures bound { OnOk result (loads_of self.new ≤ 10 + size_in self.new.first / 4) }
+        ensures file { OnOk result (IsDataSize (size_in self.new.first)) }
+        ensures size { OnOk result (0 < loads_of self.old → size_in self.new.first ≡ size_in self.old.first) }
         ensures done { IfOk result (λ went. Says went self.new) }
         ensures accepted { OnOk result (10 ≤ loads_of self.new → HasAccepted self.new.first) }
         ensures told { OnOk result (OnTold (S.state share.new).told (λ h. HasLoaded self.new (region_after h.start h.past))) }
@@ -111,6 +113,7 @@ impl Loading {
         requires going { is_done self.old ≡ false }
         requires size { self.old.first.made ≡ 0 → IsDataSize value }
         ensures loads { OnOk result (loads_of self.new ≡ loads_of self.old + 1) }
+        ensures size { OnOk result (0 < loads_of self.old → size_in self.new.first ≡ size_in self.old.first) }
         ensures told { OnOk result ((r : Region) → IsRegion r → HasLoaded self.old r → value ≡ next_answer self.old r → HasLoaded self.new r) }
         ensures err { IfErr result (λ stop. Refuses stop self.old value) }
         ensures tenth { IfErr result (λ stop. IsTenthIfRecord stop self.old) }
@@ -127,6 +130,7 @@ impl Loading {
         requires first { self.old.first.made < 10 }
         requires size { self.old.first.made ≡ 0 → IsDataSize value }
         ensures loads { OnOk result (loads_of self.new ≡ loads_of self.old + 1) }
+        ensures size { OnOk result (0 < loads_of self.old → size_in self.new.first ≡ size_in self.old.first) }
         ensures told { OnOk result ((r : Region) → HasLoaded self.old r → value ≡ slice_index (first_answers r) self.old.first.made → HasLoaded self.new r) }
         ensures err { IfErr result (λ stop. Refuses stop self.old value) }
         ensures tenth { IfErr result (λ stop. IsTenthIfRecord stop self.old) }
@@ -143,6 +147,7 @@ impl Loading {
         requires complete { self.old.first.made ≡ 10 }
         requires going { is_done self.old ≡ false }
         ensures loads { OnOk result (loads_of self.new ≡ loads_of self.old + 1) }
+        ensures size { OnOk result (0 < loads_of self.old → size_in self.new.first ≡ size_in self.old.first) }
         ensures told { OnOk result ((r : Region) → IsRegion r → HasLoaded self.old r → value ≡ next_payload_word self.old r → HasLoaded self.new r) }
         ensures same { OnErr result (self.new ≡ self.old) }
     {
@@ -165,6 +170,7 @@ impl Loading {
 
     // Whether the load is done.
     fn went(&self) -> Went
+        ensures file { 0 < loads_of self.now → IsDataSize (size_in self.now.first) }
         ensures done { Says result self.now }
         ensures bound { loads_of self.now ≤ 10 + size_in self.now.first / 4 }
         ensures accepted { 10 ≤ loads_of self.now → HasAccepted self.now.first }
@@ -178,6 +184,7 @@ impl Loading {
     /// What was loaded.
     pub fn finish(self) -> Loaded
         requires { is_done self ≡ true }
+        ensures whole { IsLoadedWhole result }
         ensures told { (r : Region) → HasLoaded self r → IsLoadOf result r }
     {
         let Loading {
