@@ -30,6 +30,12 @@ NoneBefore by.Record r = ⊤
 NoneBefore by.Header r = candidate_agrees by.Record r ≡ false
 NoneBefore by.Last r = (candidate_agrees by.Record r ≡ false) × (candidate_agrees by.Header r ≡ false)
 
+-- the candidate's place in the order
+abbrev pub turn_of : Candidate → ℕ
+turn_of by.Record = 0
+turn_of by.Header = 1
+turn_of by.Last = 2
+
 -- the size of the candidate's image
 abbrev pub candidate_size : Candidate → FirstWords → ℕ
 candidate_size by.Record f = (record_in f).size
