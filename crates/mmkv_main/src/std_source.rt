@@ -9,16 +9,19 @@ use std::io::{Input, Read};
 pub struct StdSource<R: Input> {
     reader: R::Reader,
     faults: u64,
+    ends: u64,
 }
 
 impl<R: Input> StdSource<R> {
-    /// No call has failed on it.
+    /// No call has failed on it, and none has met its end.
     pub fn new(rt: &R) -> StdSource<R>
-        ensures { result.faults ≡ 0 }
+        ensures faults { result.faults ≡ 0 }
+        ensures ends { result.ends ≡ 0 }
     {
         StdSource {
             reader: rt.reader(),
             faults: 0,
+            ends: 0,
         }
     }
 }
@@ -26,11 +29,18 @@ impl<R: Input> StdSource<R> {
 impl<R: Input> Source for StdSource<R> {
     ghost faults = { λ s. s.faults };
 
+    ghost ends = { λ s. s.ends };
+
     ghost left = { λ s. None };
 
     fn read(&mut self, buffer: &mut [u8]) -> Result<usize, Failed> {
         match self.reader.read(buffer) {
-            Ok(n) => Ok(n),
+            Ok(n) => {
+                if n == 0 && !buffer.is_empty() {
+                    self.ends = self.ends.saturating_add(1);
+                }
+                Ok(n)
+            }
             Err(_) => {
                 self.faults = self.faults.saturating_add(1);
                 Err(Failed)
@@ -105,6 +115,7 @@ mod tests {
             assert_eq!(rt; two_of(&mut source), Ok(want));
         }
         assert_eq!(rt; source.faults, 0);
+        assert_eq!(rt; source.ends, 1);
     }
 
     #[test]
