@@ -53,10 +53,12 @@ Compares Unknown r size checksum = ⊤
 Compares Agrees r size checksum = agrees r.data_bytes size checksum ≡ true
 Compares Differs r size checksum = agrees r.data_bytes size checksum ≡ false
 
+-- this holds of the candidate that is wanted
 abbrev pub IfWants : Judged → (Candidate → Type 0) → Type 0
 IfWants (Wants c) P = P c
 IfWants (Shows s) P = ⊤
 
+-- this holds of what is shown
 abbrev pub IfShows : Judged → (Shown → Type 0) → Type 0
 IfShows (Wants c) P = ⊤
 IfShows (Shows s) P = P s

@@ -1,7 +1,7 @@
 // Which image is shown: the candidates in their order, each looked at once its payload is loaded.
 ghost use Rattle.std.specs.Prelude.{◌≡◌, ◌<◌, ◌≤◌, ◌+◌, length, IfSome};
 ghost use Rattle.region_words.specs.Region.{Region, file_size, size_of};
-ghost use Rattle.loader.specs.FirstWords.{AreFirst, size_in};
+ghost use Rattle.loader.specs.FirstWords.{AreFirst};
 ghost use Rattle.loader.specs.Candidates.{IsFront, NoneBefore, IsWanted, Compares, IfWants, IfShows, Tells, damage_in, turn_of};
 
 use crate::first_words::FirstWords;
