@@ -14,7 +14,7 @@ use lock_rules::{LockKind, Tried};
 use region_words::{
     Event, LocalRegion, LocalSeat, Mark, Next, Share, ShareStop, Side, Standing, Stored, What,
 };
-use std::alloc::Global;
+use std::alloc::{AllocError, Global};
 use std::test::Fail;
 
 // What is known of a store of the pair k, abc. The checksum is that of zlib.
@@ -168,8 +168,10 @@ fn standing_of(maker: &Appending) -> Option<Standing> {
     Some(maker.standing())
 }
 
-// The maker and the word of a store, what it stores, and whether it commits a change.
-fn store_of(event: &Event) -> Option<(u32, Side, u32, u32, bool)> {
+// A store: its maker, its place, its value, and whether it commits a change.
+type Seen = (u32, Side, u32, u32, bool);
+
+fn store_of(event: &Event) -> Option<Seen> {
     match &event.what {
         What::Store {
             side,
@@ -187,40 +189,23 @@ fn store_of(event: &Event) -> Option<(u32, Side, u32, u32, bool)> {
     }
 }
 
+// The events of a region, in their order.
+fn seen_in(alloc: Global, region: &LocalRegion) -> Result<Vec<Option<Seen>>, AllocError> {
+    let mut seen = Vec::new(alloc);
+    for event in region.journal() {
+        seen.push(store_of(event))?;
+    }
+    Ok(seen)
+}
+
 #[test]
-fn the_header_comes_before_the_checksum_which_alone_is_marked(rt: HostRuntime) -> Result<(), Fail> {
-    let alloc = rt.alloc();
-    let (mut maker, mut seat) = appending(alloc).expect(&rt, "ample memory");
-    assert_eq!(rt; standing_of(&maker), None);
+fn what_is_known_at_the_end_is_not_told_before(rt: HostRuntime) -> Result<(), Fail> {
+    let (mut maker, mut seat) = appending(rt.alloc()).expect(&rt, "ample memory");
     assert_eq!(rt; make(&mut maker, &mut seat, 4)?, Stored::More);
     assert_eq!(rt; maker.events(), 1);
+    assert_eq!(rt; standing_of(&maker), None);
     assert_eq!(rt; make(&mut maker, &mut seat, 1)?, Stored::Done);
     assert_eq!(rt; standing_of(&maker), Some(AFTER));
-    let region = seat.into_region();
-    let want = [
-        None,
-        Some((1, Side::Data, 3, 0x0163_6261, false)),
-        Some((1, Side::Data, 4, 0x6401_026b, false)),
-        Some((1, Side::Data, 0, 16, false)),
-        Some((1, Side::Meta, 0, 0x685b_2d6c, true)),
-        Some((1, Side::Meta, 7, 16, false)),
-    ];
-    assert_eq!(rt; region.journal().len(), want.len());
-    for (event, want) in region.journal().iter().zip(&want) {
-        assert_eq!(rt; store_of(event), *want);
-    }
-    let changes = region.changes(alloc)?;
-    assert_eq!(rt; changes.as_slice().len(), 1);
-    for change in changes.as_slice() {
-        assert_eq!(rt; change.maker, 1);
-        let Act::Put { key, value, expiry } = &change.act else {
-            assert!(rt; false, "another act");
-            return Ok(());
-        };
-        assert_eq!(rt; key.as_slice(), b"k".as_slice());
-        assert_eq!(rt; value.as_slice(), b"\x01d".as_slice());
-        assert_eq!(rt; *expiry, 0);
-    }
     Ok(())
 }
 
@@ -230,6 +215,49 @@ fn cut(alloc: Global, steps: u32) -> Option<LocalRegion> {
     make(&mut maker, &mut seat, steps).ok()?;
     seat.die(None).ok()?;
     Some(seat.into_region())
+}
+
+#[test]
+fn the_header_comes_before_the_checksum_which_alone_is_marked(rt: HostRuntime) -> Result<(), Fail> {
+    let region = cut(rt.alloc(), 5).expect(&rt, "ample memory");
+    let seen = seen_in(rt.alloc(), &region)?;
+    let want = [
+        None,
+        Some((1, Side::Data, 3, 0x0163_6261, false)),
+        Some((1, Side::Data, 4, 0x6401_026b, false)),
+        Some((1, Side::Data, 0, 16, false)),
+        Some((1, Side::Meta, 0, 0x685b_2d6c, true)),
+        Some((1, Side::Meta, 7, 16, false)),
+        None,
+    ];
+    assert_eq!(rt; seen.as_slice(), want.as_slice());
+    Ok(())
+}
+
+#[test]
+fn the_change_counts_from_its_checksum_on(rt: HostRuntime) -> Result<(), Fail> {
+    for (steps, want) in [(3, 0), (4, 1), (5, 1)] {
+        let region = cut(rt.alloc(), steps).expect(&rt, "ample memory");
+        let changes = region.changes(rt.alloc())?;
+        assert_eq!(rt; changes.as_slice().len(), want, "after {steps}");
+        for change in changes.as_slice() {
+            assert_eq!(rt; change.maker, 1);
+            assert!(rt; puts_this(&change.act), "after {steps}");
+        }
+    }
+    Ok(())
+}
+
+// Whether it puts the value 01 64 for the key k, for ever.
+fn puts_this(act: &Act) -> bool {
+    match act {
+        Act::Put { key, value, expiry } => {
+            key.as_slice() == b"k".as_slice()
+                && value.as_slice() == b"\x01d".as_slice()
+                && *expiry == 0
+        }
+        _ => false,
+    }
 }
 
 #[test]
@@ -276,6 +304,6 @@ fn a_death_leaves_the_stores_before_it(rt: HostRuntime) {
         let region = cut(rt.alloc(), steps).expect(&rt, "ample memory");
         assert_eq!(rt; region.data_bytes().get(..24), Some(data), "after {steps}");
         assert_eq!(rt; region.meta_bytes().get(..40), Some(meta), "after {steps}");
-        assert_eq!(rt; region.journal().len() as u32, 2 + steps);
+        assert_eq!(rt; region.journal().len() as u64, 2 + u64::from(steps));
     }
 }
