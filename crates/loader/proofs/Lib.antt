@@ -1,0 +1,5 @@
+pub mod Answered
+pub mod Showing
+pub mod Fronts
+pub mod Telling
+pub mod Taken

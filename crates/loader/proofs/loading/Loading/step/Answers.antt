@@ -1,0 +1,16 @@
+use Rattle.std.proofs.lemmas.Result.{err_from_is_err_and}
+use Rattle.loader.specs.Loads.{HasLoaded}
+use Rattle.loader.proofs.Telling.{told_after, stops}
+use Rattle.loader.proofs.loading.Loading.step.Goals as goal
+
+pub returns-in_err-take_in-clause-err : goal.returns-in_err-take_in-clause-err
+returns-in_err-take_in-clause-err g c =
+    let p = err_from_is_err_and c.from_residual-in_err-take_in.result c.from_residual-in_err-take_in.ensures.1 in
+    rw (p.1, p.2)
+    (stops c.in_err-take_in.field-0.0 c.args.self.now c.in_ok-value.value _ _ c.ask.ensures.sound c.in_ok-value.ensures.goes c.requires.lock c.requires.so_far
+    c.in_ok-value.ensures.value c.in_err-take_in.ensures.err)
+
+pub returns-clause-told : goal.returns-clause-told
+returns-clause-told g c =
+    told_after (HasLoaded c.take_in.new.self) c.args.self.now c.in_ok-value.value _ _ c.ask.ensures.sound c.in_ok-value.ensures.goes c.requires.lock c.requires.so_far
+    c.in_ok-value.ensures.value c.in_ok-take_in.ensures.told

@@ -1,0 +1,5 @@
+pub mod FirstWords
+pub mod Candidates
+pub mod Outlooks
+pub mod Loads
+pub mod Inside

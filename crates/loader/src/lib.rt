@@ -1,0 +1,16 @@
+//! What a shared region shows, found out by one load a step.
+#![tactic(auto)]
+
+mod candidates;
+mod first_words;
+mod found;
+mod loaded;
+mod loading;
+mod outlook;
+mod stops;
+#[cfg(test)]
+mod tests;
+
+pub use loaded::{Image, Loaded};
+pub use loading::{Loading, Went};
+pub use stops::LoadStop;
