@@ -3,5 +3,7 @@
 
 mod appending;
 mod item;
+#[cfg(test)]
+mod tests;
 
 pub use appending::Appending;

@@ -30,6 +30,12 @@ NoneBefore by.Record r = ⊤
 NoneBefore by.Header r = candidate_agrees by.Record r ≡ false
 NoneBefore by.Last r = (candidate_agrees by.Record r ≡ false) × (candidate_agrees by.Header r ≡ false)
 
+-- the candidate's place in the order
+abbrev pub turn_of : Candidate → ℕ
+turn_of by.Record = 0
+turn_of by.Header = 1
+turn_of by.Last = 2
+
 -- the size of the candidate's image
 abbrev pub candidate_size : Candidate → FirstWords → ℕ
 candidate_size by.Record f = (record_in f).size
@@ -47,10 +53,12 @@ Compares Unknown r size checksum = ⊤
 Compares Agrees r size checksum = agrees r.data_bytes size checksum ≡ true
 Compares Differs r size checksum = agrees r.data_bytes size checksum ≡ false
 
+-- this holds of the candidate that is wanted
 abbrev pub IfWants : Judged → (Candidate → Type 0) → Type 0
 IfWants (Wants c) P = P c
 IfWants (Shows s) P = ⊤
 
+-- this holds of what is shown
 abbrev pub IfShows : Judged → (Shown → Type 0) → Type 0
 IfShows (Wants c) P = ⊤
 IfShows (Shows s) P = P s

@@ -24,10 +24,11 @@ first_answers r =
 pub record AreFirst (f : FirstWords) (r : Region) : Type 0 where
   pub same : take f.made f.answers ≡ take f.made (first_answers r)
 
--- the size of the data file, the record and the header, as they were answered
+-- the size of the data file, as it was answered
 abbrev pub size_in : FirstWords → ℕ
 size_in f = slice_index f.answers 0
 
+-- the record, as it was answered
 abbrev pub record_in : FirstWords → Record
 record_in f =
     record {
@@ -40,6 +41,7 @@ record_in f =
       last_checksum = slice_index f.answers 8;
     }
 
+-- the header, as it was answered
 abbrev pub header_in : FirstWords → ℕ
 header_in f = slice_index f.answers 9
 

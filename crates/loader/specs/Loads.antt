@@ -37,10 +37,11 @@ pub record HasLoaded (l : Load) (r : Region) : Type 0 where
 abbrev pub loads_of : Load → ℕ
 loads_of l = l.first.made + length l.payload / 4
 
--- what the next load of a region answers: the next of the first ten, or the next payload word
+-- the payload word that is loaded next
 abbrev pub next_payload_word : Load → Region → ℕ
 next_payload_word l r = word_at r.data_bytes (1 + length l.payload / 4)
 
+-- what the next load of a region answers: one of the first ten, or a payload word
 abbrev pub next_answer : Load → Region → ℕ
 next_answer l r = if nat_lt 9 l.first.made then next_payload_word l r else slice_index (first_answers r) l.first.made
 
@@ -49,6 +50,7 @@ abbrev pub was_found : Outlook → Bool
 was_found (Wants c) = false
 was_found (Found f) = true
 
+-- nothing is left to load
 abbrev pub is_done : Load → Bool
 is_done l = was_found l.outlook
 

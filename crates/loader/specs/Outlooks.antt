@@ -9,7 +9,8 @@ use Rattle.region_words.specs.Rows.{standing}
 use Rattle.loader.specs.FirstWords.{record_in, header_in, size_in}
 use Rattle.loader.specs.declared.stops.LoadStop.{LoadStop}
 use Rattle.loader.specs.declared.stops.LoadStop.TheVariants as stop
-use Rattle.loader.specs.Candidates.{NoneBefore, IsWanted}
+use Rattle.loader.specs.Candidates.{NoneBefore, IsWanted, turn_of}
+use Rattle.loader.specs.declared.candidates.Candidate.{Candidate}
 use Rattle.loader.specs.declared.first_words.FirstWords.{FirstWords}
 use Rattle.loader.specs.declared.found.Found.{Found}
 use Rattle.loader.specs.declared.outlook.Outlook.{Outlook}
@@ -38,6 +39,11 @@ pub record IsFoundIn (f : Found) (r : Region) : Type 0 where
 abbrev pub IsOutlookOf : Outlook → Region → Type 0
 IsOutlookOf (outlook.Wants c) r = NoneBefore c r
 IsOutlookOf (outlook.Found f) r = IsFoundIn f r
+
+-- what is looked for is this candidate or a later one
+abbrev pub GoesOnFrom : Candidate → Outlook → Type 0
+GoesOnFrom from (outlook.Wants c) = turn_of from ≤ turn_of c
+GoesOnFrom from (outlook.Found f) = ⊤
 
 -- what was found is loaded, of a file of this size
 pub record IsLoaded (f : FirstWords) (loaded : List ℕ) (found : Found) : Type 0 where

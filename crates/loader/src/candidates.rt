@@ -1,8 +1,8 @@
 // Which image is shown: the candidates in their order, each looked at once its payload is loaded.
 ghost use Rattle.std.specs.Prelude.{◌≡◌, ◌<◌, ◌≤◌, ◌+◌, length, IfSome};
 ghost use Rattle.region_words.specs.Region.{Region, file_size, size_of};
-ghost use Rattle.loader.specs.FirstWords.{AreFirst, size_in};
-ghost use Rattle.loader.specs.Candidates.{IsFront, NoneBefore, IsWanted, Compares, IfWants, IfShows, Tells, damage_in};
+ghost use Rattle.loader.specs.FirstWords.{AreFirst};
+ghost use Rattle.loader.specs.Candidates.{IsFront, NoneBefore, IsWanted, Compares, IfWants, IfShows, Tells, damage_in, turn_of};
 
 use crate::first_words::FirstWords;
 use crc_words::crc32;
@@ -51,11 +51,13 @@ fn compare(file: u32, payload: &[u8], size: u32, checksum: u32) -> Compared
     }
 }
 
-/// What the words loaded so far tell of the images from this candidate on. Those before it don't agree.
+/// What the words loaded so far tell of the images from this candidate on. Those before it don't agree, and are not looked
+/// at again.
 pub fn judge(first: &FirstWords, payload: &[u8], from: Candidate) -> Judged
     requires { first.now.made ≡ 10 }
     ensures wants { IfWants result (IsWanted first.now payload.now) }
     ensures within { IfShows result (λ shown. IfSome (size_of shown) (λ size. size ≤ length payload.now)) }
+    ensures onward { IfWants result (λ c. turn_of from ≤ turn_of c) }
     ensures told { (r : Region) → AreFirst first.now r → IsFront payload.now r → NoneBefore from r → Tells result r }
 {
     match from {
@@ -83,6 +85,7 @@ fn from_header(first: &FirstWords, payload: &[u8]) -> Judged
     requires { first.now.made ≡ 10 }
     ensures wants { IfWants result (IsWanted first.now payload.now) }
     ensures within { IfShows result (λ shown. IfSome (size_of shown) (λ size. size ≤ length payload.now)) }
+    ensures onward { IfWants result (λ c. turn_of Candidate.Header ≤ turn_of c) }
     ensures told { (r : Region) → AreFirst first.now r → IsFront payload.now r → NoneBefore Candidate.Header r → Tells result r }
 {
     let rec = first.record();
@@ -101,6 +104,7 @@ fn from_last(first: &FirstWords, payload: &[u8]) -> Judged
     requires { first.now.made ≡ 10 }
     ensures wants { IfWants result (IsWanted first.now payload.now) }
     ensures within { IfShows result (λ shown. IfSome (size_of shown) (λ size. size ≤ length payload.now)) }
+    ensures onward { IfWants result (λ c. turn_of Candidate.Last ≤ turn_of c) }
     ensures told { (r : Region) → AreFirst first.now r → IsFront payload.now r → NoneBefore Candidate.Last r → Tells result r }
 {
     let rec = first.record();

@@ -1,5 +1,5 @@
 // The answers of the first ten loads: the size of the data file, the record and the header.
-ghost use Rattle.std.specs.Prelude.{◌≡◌, ◌≢◌, ◌≤◌, ◌<◌, ◌+◌, slice_index, slice_set, length, replicate, nat_lt, false, IfOk, IfErr, OnOk};
+ghost use Rattle.std.specs.Prelude.{◌≡◌, ◌+◌, ◌<◌, ◌≤◌, slice_index, slice_set, length, replicate, nat_lt, false, IfOk, IfErr, OnOk};
 ghost use Rattle.region_words.specs.Region.{Region};
 ghost use Rattle.region_words.specs.Told.{OnTold};
 ghost use Rattle.region_words.specs.Past.{region_after};

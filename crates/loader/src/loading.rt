@@ -1,11 +1,11 @@
 // A full load of a region: one load of a shared region a step.
-ghost use Rattle.std.specs.Prelude.{slice_index, ◌≡◌, ◌≢◌, ◌+◌, ◌/◌, ◌<◌, ◌≤◌, None, true, false, length, nat_lt, IfOk, IfErr, OnOk, OnErr};
-ghost use Rattle.region_words.specs.Region.{Region, IsRegion};
+ghost use Rattle.std.specs.Prelude.{◌≡◌, ◌≢◌, ◌+◌, ◌/◌, ◌<◌, ◌≤◌, None, true, false, slice_index, IfOk, IfErr, OnOk, OnErr};
+ghost use Rattle.region_words.specs.Region.{Region, IsRegion, file_size};
 ghost use Rattle.region_words.specs.Past.{region_after};
 ghost use Rattle.region_words.specs.Told.{OnTold};
 ghost use Rattle.region_words.specs.Share.{IsSound, Goes, Stops, loaded};
 ghost use Rattle.loader.specs.FirstWords.{HasAccepted, IsDataSize, first_answers, size_in};
-ghost use Rattle.loader.specs.Loads.{Load, HasLoaded, loads_of, next_answer, next_payload_word, is_done, Says, IsLoadOf, IsLoadedWhole, StopsLoading, Refuses, IsTenthIfRecord};
+ghost use Rattle.loader.specs.Loads.{HasLoaded, loads_of, next_answer, next_payload_word, is_done, Says, IsLoadOf, IsLoadedWhole, StopsLoading, Refuses, IsTenthIfRecord};
 
 use crate::candidates::Candidate;
 use crate::first_words::FirstWords;
@@ -76,6 +76,7 @@ impl Loading {
         ensures bound { OnOk result (loads_of self.new ≤ 10 + size_in self.new.first / 4) }
         ensures file { OnOk result (IsDataSize (size_in self.new.first)) }
         ensures size { OnOk result (0 < loads_of self.old → size_in self.new.first ≡ size_in self.old.first) }
+        ensures answered { OnOk result (OnTold (S.state share.new).told (λ h. size_in self.new.first ≡ file_size (region_after h.start h.past))) }
         ensures done { IfOk result (λ went. Says went self.new) }
         ensures accepted { OnOk result (10 ≤ loads_of self.new → HasAccepted self.new.first) }
         ensures told { OnOk result (OnTold (S.state share.new).told (λ h. HasLoaded self.new (region_after h.start h.past))) }
@@ -170,6 +171,7 @@ impl Loading {
 
     // Whether the load is done.
     fn went(&self) -> Went
+        ensures begun { 0 < loads_of self.now → 0 < self.now.first.made }
         ensures file { 0 < loads_of self.now → IsDataSize (size_in self.now.first) }
         ensures done { Says result self.now }
         ensures bound { loads_of self.now ≤ 10 + size_in self.now.first / 4 }

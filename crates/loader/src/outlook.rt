@@ -3,7 +3,7 @@ ghost use Rattle.std.specs.Prelude.{◌≡◌, ◌≤◌, ◌<◌, [], length, I
 ghost use Rattle.region_words.specs.Region.{Region};
 ghost use Rattle.loader.specs.FirstWords.{AreFirst, HasAccepted};
 ghost use Rattle.loader.specs.Candidates.{IsFront, NoneBefore};
-ghost use Rattle.loader.specs.Outlooks.{IsOutlookOf, IsDue, RefusesRecord};
+ghost use Rattle.loader.specs.Outlooks.{IsOutlookOf, IsDue, GoesOnFrom, RefusesRecord};
 
 use crate::candidates::{Candidate, Judged, judge};
 use crate::first_words::FirstWords;
@@ -47,6 +47,7 @@ pub fn look(
     requires complete { first.now.made ≡ 10 }
     requires small { length payload.now ≤ u32.MAX }
     ensures due { IfOk result (IsDue first.now payload.now) }
+    ensures onward { IfOk result (GoesOnFrom from) }
     ensures told { IfOk result (λ outlook. (r : Region) → AreFirst first.now r → IsFront payload.now r → NoneBefore from r → IsOutlookOf outlook r) }
 {
     match judge(first, payload, from) {

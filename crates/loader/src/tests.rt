@@ -1,7 +1,5 @@
 // Loads of a few regions, by single steps.
 ghost use Rattle.std.specs.Prelude.{◌≡◌, ◌≢◌, false, None, IfSome};
-ghost use Rattle.region_words.specs.Past.{region_after};
-ghost use Rattle.region_words.specs.Told.{OnTold};
 ghost use Rattle.region_words.specs.Local.{seat_state};
 
 use crate::{LoadStop, Loaded, Loading, Went};

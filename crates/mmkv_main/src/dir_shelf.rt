@@ -1,12 +1,15 @@
 // The stores of a directory, as a shelf.
-ghost use Rattle.std.specs.Prelude.{◌≡◌, ◌≤◌, length, IfOk, IfSome};
+ghost use Rattle.std.specs.Prelude.{◌≡◌, ◌≢◌, ℕ, ◌≤◌, ◌∷◌, ◌++◌, Ok, None, length, OnOk, IfOk, IfErr, IfSome, IsOk};
+ghost use Rattle.region_words.specs.Outside.{Rose, one_more};
 ghost use Rattle.region_words.specs.Stores.{Untold};
+ghost use Rattle.mmkv_main.specs.Stopped.{IsStopped};
 
-use expiring_map::{Bytes, Memory};
+use expiring_map::Bytes;
 use region_words::{Brought, LARGEST_DATA, LARGEST_META, Shelf, ShelfStop};
-use std::fs;
+use std::alloc::AllocError;
 use std::fs::{Files, OpenFile};
-use std::io::{ErrorKind, Read};
+use std::io::{Error, ErrorKind, Read};
+use std::{fs, io};
 
 /// A directory with the two files `ID` and `ID.crc` of each store. It tells nothing of what they hold.
 #[derive(Drop)]
@@ -14,22 +17,31 @@ pub struct DirShelf<'a, R: Files + AllocGlobal> {
     rt: &'a R,
     directory: Bytes,
     faults: u64,
+    absences: u64,
+    // How often a file was opened that isn't there, of either kind.
+    missing: u64,
 }
 
 impl<'a, R: Files + AllocGlobal> DirShelf<'a, R> {
-    /// No call has failed on it.
+    /// No call has failed on it, and no store was found absent.
     pub fn new(rt: &'a R, directory: Bytes) -> DirShelf<'a, R>
         ensures directory { result.directory ≡ directory }
         ensures faults { result.faults ≡ 0 }
+        ensures absences { result.absences ≡ 0 }
+        ensures missing { result.missing ≡ 0 }
     {
         DirShelf {
             rt,
             directory,
             faults: 0,
+            absences: 0,
+            missing: 0,
         }
     }
 
-    fn path_of(&self, id: &[u8], ending: &[u8]) -> Result<Vec<u8>, Memory> {
+    fn path_of(&self, id: &[u8], ending: &[u8]) -> Result<Vec<u8>, AllocError>
+        ensures { IfOk result (λ path. path.items ≡ self.now.directory ++ (47 ∷ id.now) ++ ending.now) }
+    {
         let mut path = self.directory.as_slice().to_vec(self.rt.alloc())?;
         path.push(b'/')?;
         path.extend_from_slice(id)?;
@@ -37,48 +49,99 @@ impl<'a, R: Files + AllocGlobal> DirShelf<'a, R> {
         Ok(path)
     }
 
-    // The bytes of one file of a store, where there is such a file.
-    fn read(&self, id: &[u8], ending: &[u8], limit: usize) -> Result<Option<Bytes>, ShelfStop>
-        ensures { IfOk result (λ found. IfSome found (λ bytes. length bytes ≤ limit)) }
-    {
-        let path = self.path_of(id, ending).map_err(|_| ShelfStop::Memory)?;
-        let Ok(path) = std::str::from_utf8(&path) else {
-            return Err(ShelfStop::Failed);
-        };
-        match fs::open(self.rt, path) {
-            Ok(file) => Ok(Some(self.read_whole(file, limit)?)),
-            Err(error) if error.kind() == ErrorKind::NotFound => Ok(None),
-            Err(_) => Err(ShelfStop::Failed),
+    fn open(&self, id: &[u8], ending: &[u8]) -> Result<io::Result<R::File>, AllocError> {
+        let path = self.path_of(id, ending)?;
+        match std::str::from_utf8(&path) {
+            Ok(path) => Ok(fs::open(self.rt, path)),
+            Err(_) => Ok(Err(Error::from(ErrorKind::InvalidData))),
         }
     }
 
-    fn read_whole(&self, mut file: R::File, limit: usize) -> Result<Bytes, ShelfStop>
-        ensures { IfOk result (λ bytes. length bytes ≤ limit) }
+    // Counts a fault.
+    fn fault(&mut self) -> ShelfStop
+        ensures stop { result ≡ ShelfStop.Failed }
+        ensures counts { self.new ≡ record self.old { faults = one_more self.old.faults } }
+        ensures never_falls { self.old.faults ≤ self.new.faults }
+    {
+        self.faults = self.faults.saturating_add(1);
+        ShelfStop::Failed
+    }
+
+    // The bytes of a file that was opened, where there is one.
+    fn read(
+        &mut self,
+        opened: io::Result<R::File>,
+        limit: usize,
+    ) -> Result<Option<Bytes>, ShelfStop>
+        ensures within { IfOk result (λ found. IfSome found (λ bytes. length bytes ≤ limit)) }
+        ensures found { IsOk opened → result ≢ Ok None }
+        ensures missing { result ≡ Ok None → Rose self.old.missing self.new.missing }
+        ensures stopped { IfErr result (IsStopped limit self.old.faults self.new.faults) }
+        ensures steady { OnOk result (self.new.faults ≡ self.old.faults) }
+        ensures never_falls { self.old.faults ≤ self.new.faults }
+        ensures absences { self.new.absences ≡ self.old.absences }
+    {
+        match opened {
+            Ok(file) => Ok(Some(self.read_within(file, limit)?)),
+            Err(error) if error.kind() == ErrorKind::NotFound => {
+                self.missing = self.missing.saturating_add(1);
+                Ok(None)
+            }
+            Err(_) => Err(self.fault()),
+        }
+    }
+
+    fn read_within(&mut self, file: R::File, limit: usize) -> Result<Bytes, ShelfStop>
+        ensures within { IfOk result (λ bytes. length bytes ≤ limit) }
+        ensures stopped { IfErr result (IsStopped limit self.old.faults self.new.faults) }
+        ensures steady { OnOk result (self.new.faults ≡ self.old.faults) }
+        ensures never_falls { self.old.faults ≤ self.new.faults }
+        ensures missing { self.new.missing ≡ self.old.missing }
+        ensures absences { self.new.absences ≡ self.old.absences }
     {
         let Ok(metadata) = file.metadata() else {
-            return Err(ShelfStop::Failed);
+            return Err(self.fault());
         };
         let size = metadata.len();
         if size > limit as u64 {
             return Err(ShelfStop::SizeRefused(size));
         }
-        let Ok(mut bytes) = vec![in self.rt.alloc(); 0u8; size as usize] else {
-            return Err(ShelfStop::Memory);
-        };
-        match file.read_exact(&mut bytes) {
-            Ok(()) => Ok(Bytes::of_vec(bytes)),
-            Err(_) => Err(ShelfStop::Failed),
-        }
+        self.read_whole(file, size as usize)
     }
 
-    fn bring_both(&self, id: &[u8]) -> Result<Brought, ShelfStop>
-        ensures data_size { IfOk result (λ b. length b.body ≤ LARGEST_DATA) }
-        ensures meta_size { IfOk result (λ b. length b.meta ≤ LARGEST_META) }
+    // The first bytes of a file, so many.
+    fn read_whole(&mut self, mut file: R::File, size: usize) -> Result<Bytes, ShelfStop>
+        ensures size { IfOk result (λ bytes. length bytes ≡ size) }
+        ensures stopped { (limit : ℕ) → IfErr result (IsStopped limit self.old.faults self.new.faults) }
+        ensures steady { OnOk result (self.new.faults ≡ self.old.faults) }
+        ensures never_falls { self.old.faults ≤ self.new.faults }
+        ensures missing { self.new.missing ≡ self.old.missing }
+        ensures absences { self.new.absences ≡ self.old.absences }
     {
-        let Some(body) = self.read(id, b"", LARGEST_DATA)? else {
+        let zeros = vec![in self.rt.alloc(); 0u8; size];
+        let mut bytes = zeros.map_err(|_| ShelfStop::Memory)?;
+        match file.read_exact(&mut bytes) {
+            Ok(()) => Ok(Bytes::of_vec(bytes)),
+            Err(_) => Err(self.fault()),
+        }
+    }
+}
+
+impl<R: Files + AllocGlobal> Shelf for DirShelf<'_, R> {
+    ghost faults = { λ s. s.faults };
+
+    ghost absences = { λ s. s.absences };
+
+    ghost stores = { λ s id. Untold };
+
+    fn bring(&mut self, id: &[u8]) -> Result<Brought, ShelfStop> {
+        let opened = self.open(id, b"").map_err(|_| ShelfStop::Memory)?;
+        let Some(body) = self.read(opened, LARGEST_DATA)? else {
+            self.absences = self.absences.saturating_add(1);
             return Err(ShelfStop::Absent);
         };
-        match self.read(id, b".crc", LARGEST_META)? {
+        let opened = self.open(id, b".crc").map_err(|_| ShelfStop::Memory)?;
+        match self.read(opened, LARGEST_META)? {
             Some(meta) => Ok(Brought { body, meta }),
             None => Ok(Brought {
                 body,
@@ -88,16 +151,200 @@ impl<'a, R: Files + AllocGlobal> DirShelf<'a, R> {
     }
 }
 
-impl<R: Files + AllocGlobal> Shelf for DirShelf<'_, R> {
-    ghost faults = { λ s. s.faults };
+#[cfg(test)]
+mod tests {
+    use super::*;
+    use region_words::is_id;
+    use std::alloc::Allocator;
+    use std::fs::{Metadata, OpenOptions};
+    use std::io::{Empty, Seek, SeekFrom, Write};
+    use std::process::Abort;
 
-    ghost stores = { λ s id. Untold };
+    fn unsupported<T>() -> io::Result<T> {
+        Err(Error::from(ErrorKind::Unsupported))
+    }
 
-    fn bring(&mut self, id: &[u8]) -> Result<Brought, ShelfStop> {
-        let brought = self.bring_both(id);
-        if let Err(ShelfStop::Failed) = brought {
-            self.faults = self.faults.saturating_add(1);
+    // An open file: how long it says that it is, if it does, and the bytes that a read finds.
+    #[derive(Clone, Copy)]
+    struct Sheet {
+        says: Option<u64>,
+        left: &'static [u8],
+    }
+
+    impl Read for Sheet {
+        fn read(&mut self, buf: &mut [u8]) -> io::Result<usize> {
+            self.left.read(buf)
         }
-        brought
+    }
+
+    impl Write for Sheet {
+        fn write(&mut self, _buf: &[u8]) -> io::Result<usize> {
+            Err(Error::from(ErrorKind::Unsupported))
+        }
+
+        fn flush(&mut self) -> io::Result<()> {
+            unsupported()
+        }
+    }
+
+    impl Seek for Sheet {
+        fn seek(&mut self, _to: SeekFrom) -> io::Result<u64> {
+            unsupported()
+        }
+    }
+
+    impl OpenFile for Sheet {
+        fn metadata(&self) -> io::Result<Metadata> {
+            match self.says {
+                Some(len) => Ok(Metadata::of_file(len)),
+                None => unsupported(),
+            }
+        }
+
+        fn set_len(&self, _size: u64) -> io::Result<()> {
+            unsupported()
+        }
+
+        fn sync_all(&self) -> io::Result<()> {
+            unsupported()
+        }
+
+        fn sync_data(&self) -> io::Result<()> {
+            unsupported()
+        }
+    }
+
+    fn whole(bytes: &'static [u8]) -> io::Result<Sheet> {
+        Ok(Sheet {
+            says: Some(bytes.len() as u64),
+            left: bytes,
+        })
+    }
+
+    fn sheet_of(len: u64) -> io::Result<Sheet> {
+        Ok(Sheet {
+            says: Some(len),
+            left: b"abc",
+        })
+    }
+
+    // A disk with a few files, which are read alone.
+    #[derive(Drop)]
+    struct Disk;
+
+    impl Files for Disk {
+        type File = Sheet;
+
+        type Dir = Empty;
+
+        fn open_file(&self, how: &OpenOptions, path: &str) -> io::Result<Sheet> {
+            how.check()?;
+            match path {
+                "home/both" => whole(b"\x01body"),
+                "home/both.crc" => whole(b"meta"),
+                "home/bare" => whole(b"bare"),
+                "home/lone.crc" => whole(b"lone"),
+                "home/empty" | "home/most" | "home/wide" => whole(b""),
+                "home/most.crc" => whole(&[0; 65_536]),
+                "home/wide.crc" => sheet_of(65_537),
+                "home/long" => sheet_of(67_108_865),
+                "home/short" => sheet_of(4),
+                "home/silent" => Ok(Sheet {
+                    says: None,
+                    left: b"abc",
+                }),
+                "home/shut" => Err(Error::from(ErrorKind::PermissionDenied)),
+                "home/half" => whole(b"half"),
+                "home/half.crc" => Err(Error::from(ErrorKind::PermissionDenied)),
+                _ => Err(Error::from(ErrorKind::NotFound)),
+            }
+        }
+
+        fn open_dir(&self, _path: &str) -> io::Result<Empty> {
+            unsupported()
+        }
+
+        fn metadata(&self, _path: &str) -> io::Result<Metadata> {
+            unsupported()
+        }
+
+        fn symlink_metadata(&self, _path: &str) -> io::Result<Metadata> {
+            unsupported()
+        }
+
+        fn copy(&self, _from: &str, _to: &str) -> io::Result<u64> {
+            unsupported()
+        }
+
+        fn rename(&self, _from: &str, _to: &str) -> io::Result<()> {
+            unsupported()
+        }
+
+        fn remove_file(&self, _path: &str) -> io::Result<()> {
+            unsupported()
+        }
+
+        fn create_dir(&self, _path: &str) -> io::Result<()> {
+            unsupported()
+        }
+
+        fn remove_dir(&self, _path: &str) -> io::Result<()> {
+            unsupported()
+        }
+
+        fn remove_dir_all<B: Allocator>(&self, _alloc: B, _path: &str) -> io::Result<()> {
+            unsupported()
+        }
+    }
+
+    // What a shelf answers that is asked twice for a store, and the faults that it has counted by then.
+    fn asked_twice<R: Files + AllocGlobal>(
+        rt: &impl Abort,
+        disk: &R,
+        id: &[u8],
+    ) -> (Result<Brought, ShelfStop>, u64) {
+        assert!(rt; is_id(id));
+        let home = Bytes::copy_of(disk.alloc(), b"home").expect(rt, "ample memory");
+        let mut shelf = DirShelf::new(disk, home);
+        let _ = shelf.bring(id);
+        (shelf.bring(id), shelf.faults)
+    }
+
+    #[test]
+    fn both_files_of_a_store_are_brought_byte_for_byte(rt: HostRuntime) {
+        let disk = (Disk, rt.alloc());
+        let rows: [(&[u8], &[u8], &[u8]); 4] = [
+            (b"both", b"\x01body", b"meta"),
+            (b"bare", b"bare", b""),
+            (b"empty", b"", b""),
+            (b"most", b"", &[0; 65_536]),
+        ];
+        for (id, body, meta) in rows {
+            let (answer, faults) = asked_twice(&rt, &disk, id);
+            let brought = answer.expect(&rt, "a store");
+            assert_eq!(rt; brought.body.as_slice(), body, "of {id:?}");
+            assert_eq!(rt; brought.meta.as_slice(), meta, "of {id:?}");
+            assert_eq!(rt; faults, 0, "of {id:?}");
+        }
+    }
+
+    #[test]
+    fn only_a_file_that_cannot_be_read_is_a_fault(rt: HostRuntime) {
+        let disk = (Disk, rt.alloc());
+        let rows: [(&[u8], _, _); 8] = [
+            (b"none", ShelfStop::Absent, 0),
+            (b"lone", ShelfStop::Absent, 0),
+            (b"long", ShelfStop::SizeRefused(67_108_865), 0),
+            (b"wide", ShelfStop::SizeRefused(65_537), 0),
+            (b"shut", ShelfStop::Failed, 2),
+            (b"short", ShelfStop::Failed, 2),
+            (b"silent", ShelfStop::Failed, 2),
+            (b"half", ShelfStop::Failed, 2),
+        ];
+        for (id, want, faults) in rows {
+            let (answer, counted) = asked_twice(&rt, &disk, id);
+            assert_eq!(rt; answer.err(), Some(want), "at {id:?}");
+            assert_eq!(rt; counted, faults, "at {id:?}");
+        }
     }
 }

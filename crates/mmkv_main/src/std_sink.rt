@@ -35,3 +35,81 @@ impl<R: Print> Sink for StdSink<'_, R> {
         }
     }
 }
+
+#[cfg(test)]
+mod tests {
+    use super::*;
+    use std::cell::RefCell;
+    use std::fmt::Display;
+    use std::io;
+    use std::io::{Error, ErrorKind};
+
+    // An output that takes two bytes at a time and holds no more than three, or is broken.
+    #[derive(Drop)]
+    struct Tape {
+        held: RefCell<Vec<u8>>,
+        broken: bool,
+    }
+
+    impl Print for Tape {
+        fn print<D: Display + Drop>(&self, _value: D) -> io::Result<()> {
+            Err(Error::from(ErrorKind::Unsupported))
+        }
+
+        fn println<D: Display + Drop>(&self, _value: D) -> io::Result<()> {
+            Err(Error::from(ErrorKind::Unsupported))
+        }
+
+        fn write_all(&self, _bytes: &[u8]) -> io::Result<()> {
+            Err(Error::from(ErrorKind::Unsupported))
+        }
+
+        fn write_some(&self, bytes: &[u8]) -> io::Result<usize> {
+            let Ok(mut held) = self.held.try_borrow_mut() else {
+                return Err(Error::from(ErrorKind::ResourceBusy));
+            };
+            if self.broken {
+                return Err(Error::from(ErrorKind::BrokenPipe));
+            }
+            let room = 3usize.saturating_sub(held.len());
+            let taken = bytes.len().min(room).min(2);
+            held.extend_from_slice(&bytes[..taken])?;
+            Ok(taken)
+        }
+    }
+
+    fn blank_tape(rt: &impl AllocGlobal, broken: bool) -> Tape {
+        Tape {
+            held: RefCell::new(Vec::new(rt.alloc())),
+            broken,
+        }
+    }
+
+    #[test]
+    fn a_piece_of_which_nothing_is_taken_is_a_fault(rt: HostRuntime) {
+        let tape = blank_tape(&rt, false);
+        let mut sink = StdSink::new(&tape);
+        for (piece, want, faults) in [
+            (&b"abc"[..], Ok(2), 0),
+            (b"", Ok(0), 0),
+            (b"cd", Ok(1), 0),
+            (b"d", Err(Failed), 1),
+            (b"", Ok(0), 1),
+            (b"d", Err(Failed), 2),
+        ] {
+            assert_eq!(rt; sink.write(piece), want, "for {piece:?}");
+            assert_eq!(rt; sink.faults, faults, "for {piece:?}");
+        }
+        assert_eq!(rt; tape.held.into_inner().as_slice(), b"abc".as_slice());
+    }
+
+    #[test]
+    fn each_write_to_a_broken_output_is_one_fault(rt: HostRuntime) {
+        let tape = blank_tape(&rt, true);
+        let mut sink = StdSink::new(&tape);
+        for (piece, faults) in [(&b"a"[..], 1), (b"", 2)] {
+            assert_eq!(rt; sink.write(piece), Err(Failed));
+            assert_eq!(rt; sink.faults, faults);
+        }
+    }
+}

@@ -1,4 +1,4 @@
--- Counts of faults, and what sources, sinks and shelves tell of their bytes.
+-- Counts of faults and of other causes, and what sources, sinks and shelves tell of their bytes.
 use Rattle.std.specs.Prelude.{◌≡◌, ℕ, ◌+◌, ◌-◌, ◌^◌, ◌<◌, ◌≤◌, ◌⊎◌, min, Bool, List, [], ◌++◌, Option, Some, None, length, take, drop, if◌then◌else◌}
 
 -- a count of 64 bits after one more; at its end it stands still
@@ -35,9 +35,10 @@ Writes (Some written) new piece = new ≡ Some (written ++ piece)
 abbrev pub CountsWrite : ℕ → ℕ → List ℕ → ℕ → Type 0
 CountsWrite before now piece n = (0 < length piece → n ≡ 0 → Rose before now) × ((length piece ≡ 0) ⊎ (0 < n) → now ≡ before)
 
--- an input in memory: what is left of it, and the calls made on it
+-- an input in memory: what is left of it, how often its end was met, and the calls made on it
 pub record Input : Type 0 where
   pub left : List ℕ
+  pub ends : ℕ
   pub tally : Tally
 
 -- an output in memory: what it took, how much it takes in all, and the calls made on it

@@ -48,9 +48,10 @@ IsDueOrRefused told (Err Memory) = ⊤
 IsDueOrRefused told (Err Absent) = IsDue told (Err Absent)
 IsDueOrRefused told (Err (SizeRefused n)) = IsDue told (Err (SizeRefused n))
 
--- the stores that lie on a shelf in memory, and the calls made on it
+-- the stores that lie on a shelf in memory, how often one was asked for that isn't there, and the calls made on it
 pub record Stack : Type 0 where
   pub stores : List Shelved
+  pub absences : ℕ
   pub tally : Tally
 
 -- the files of a store that was found or not

@@ -6,6 +6,8 @@ mod clock;
 mod copies;
 mod event;
 mod failing;
+#[cfg(test)]
+mod growing;
 mod id;
 mod laws;
 mod listed_events;
@@ -21,6 +23,8 @@ mod region;
 mod row_maker;
 mod seat;
 mod share;
+#[cfg(test)]
+mod sharing;
 mod shelf;
 mod showing;
 mod sink;

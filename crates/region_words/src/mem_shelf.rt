@@ -23,6 +23,7 @@ pub struct Shelved {
 pub struct MemShelf {
     alloc: Global,
     stores: Vec<Shelved>,
+    absences: u64,
     failing: Failing,
 }
 
@@ -31,7 +32,7 @@ impl Model for MemShelf {
 
     ghost Value = { Stack };
 
-    ghost view = { λ s. record { stores = s.stores.items; tally = s.failing } };
+    ghost view = { λ s. record { stores = s.stores.items; absences = s.absences; tally = s.failing } };
 }
 
 impl MemShelf {
@@ -40,11 +41,12 @@ impl MemShelf {
 
     /// An empty shelf, whose calls all succeed.
     pub fn new(alloc: Global) -> MemShelf
-        ensures { result ≡ record { stores = []; tally = record { listed = []; made = 0; faults = 0 } } }
+        ensures { result ≡ record { stores = []; absences = 0; tally = record { listed = []; made = 0; faults = 0 } } }
     {
         MemShelf {
             alloc,
             stores: Vec::new(alloc),
+            absences: 0,
             failing: Failing::new(Vec::new(alloc)),
         }
     }
@@ -79,12 +81,16 @@ impl Shelf for MemShelf {
 
     ghost faults = { λ s. s.tally.faults };
 
+    ghost absences = { λ s. s.absences };
+
     ghost stores = { λ s id. told_in s.stores id };
 
     fn bring(&mut self, id: &[u8]) -> Result<Brought, ShelfStop>
         ensures told { IsDueOrRefused (told_in self.old.stores id.now) result }
         ensures data_size { IfOk result (λ b. length b.body ≤ LARGEST_DATA) }
         ensures meta_size { IfOk result (λ b. length b.meta ≤ LARGEST_META) }
+        ensures absent { IsErrOf result ShelfStop.Absent → Rose self.old.absences self.new.absences }
+        ensures absences_never_fall { self.old.absences ≤ self.new.absences }
         ensures failed { IsErrOf result ShelfStop.Failed → Rose self.old.tally.faults self.new.tally.faults }
         ensures steady { result ≢ Err ShelfStop.Failed → self.new.tally.faults ≡ self.old.tally.faults }
         ensures never_falls { self.old.tally.faults ≤ self.new.tally.faults }
@@ -96,7 +102,10 @@ impl Shelf for MemShelf {
         }
         match store_of(&self.stores, id) {
             Some(store) => copy_of(self.alloc, store),
-            None => Err(ShelfStop::Absent),
+            None => {
+                self.absences = self.absences.saturating_add(1);
+                Err(ShelfStop::Absent)
+            }
         }
     }
 }

@@ -1,5 +1,5 @@
 // An input in memory, whose reads may be made to fail.
-ghost use Rattle.std.specs.Prelude.{◌≡◌, ◌≤◌, ◌↔◌, Some, length, min, OnOk, OnErr, IfOk, IsErr, Contains, is_err};
+ghost use Rattle.std.specs.Prelude.{◌≡◌, ◌<◌, ◌≤◌, ◌↔◌, Some, length, min, OnOk, OnErr, IfOk, IsErr, Contains, is_err};
 ghost use Rattle.region_words.specs.Outside.{Rose, Reads, after_call};
 
 use crate::failing::Failing;
@@ -11,6 +11,7 @@ use std::marker::Model;
 pub struct MemSource {
     bytes: Vec<u8>,
     at: usize,
+    ends: u64,
     failing: Failing,
 }
 
@@ -20,7 +21,7 @@ impl Model for MemSource {
 
     ghost Value = { Input };
 
-    ghost view = { λ s. record { left = drop s.at s.bytes.items; tally = s.failing } };
+    ghost view = { λ s. record { left = drop s.at s.bytes.items; ends = s.ends; tally = s.failing } };
 
     ghost invariant = { λ s. s.at ≤ vec_len s.bytes };
 }
@@ -28,11 +29,12 @@ impl Model for MemSource {
 impl MemSource {
     /// Nothing is read yet. The reads of the numbers in `fails`, counted from 0, are to fail.
     pub fn new(bytes: Vec<u8>, fails: Vec<u64>) -> MemSource
-        ensures { result ≡ record { left = bytes.items; tally = record { listed = fails.items; made = 0; faults = 0 } } }
+        ensures { result ≡ record { left = bytes.items; ends = 0; tally = record { listed = fails.items; made = 0; faults = 0 } } }
     {
         MemSource {
             bytes,
             at: 0,
+            ends: 0,
             failing: Failing::new(fails),
         }
     }
@@ -41,6 +43,8 @@ impl MemSource {
 impl Source for MemSource {
     ghost faults = { λ s. s.tally.faults };
 
+    ghost ends = { λ s. s.ends };
+
     ghost left = { λ s. Some s.left };
 
     // The buffer is filled as far as bytes are left.
@@ -48,6 +52,8 @@ impl Source for MemSource {
         ensures within { IfOk result (λ n. n ≤ length buffer.old) }
         ensures ok { IfOk result (λ n. Reads (Some self.old.left) (Some self.new.left) buffer.new n) }
         ensures err { OnErr result (self.new.left ≡ self.old.left) }
+        ensures end { IfOk result (λ n. n ≡ 0 → 0 < length buffer.old → Rose self.old.ends self.new.ends) }
+        ensures ends_never_fall { self.old.ends ≤ self.new.ends }
         ensures steady { OnOk result (self.new.tally.faults ≡ self.old.tally.faults) }
         ensures failed { OnErr result (Rose self.old.tally.faults self.new.tally.faults) }
         ensures never_falls { self.old.tally.faults ≤ self.new.tally.faults }
@@ -62,6 +68,9 @@ impl Source for MemSource {
         let n = buffer.len().min(left.len());
         buffer[..n].copy_from_slice(&left[..n]);
         self.at += n;
+        if n == 0 && !buffer.is_empty() {
+            self.ends = self.ends.saturating_add(1);
+        }
         Ok(n)
     }
 }

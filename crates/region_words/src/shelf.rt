@@ -25,7 +25,7 @@ pub enum ShelfStop {
     /// The shelf had a fault, which its count says too.
     #[error("a fault of the shelf")]
     Failed,
-    /// There is no data file of that ID.
+    /// There is no data file of that ID, which the count of absences says too.
     #[error("no such store")]
     Absent,
     /// A file is over its limit; this is its length.
@@ -41,6 +41,9 @@ pub trait Shelf {
     /// How many calls have failed.
     ghost faults: { Self → ℕ };
 
+    /// How often a store was asked for that isn't there.
+    ghost absences: { Self → ℕ };
+
     /// What lies under an ID, where the shelf tells it.
     ghost stores: { Self → List ℕ → Told };
 
@@ -50,6 +53,8 @@ pub trait Shelf {
         ensures told { IsDueOrRefused (stores self.old id.now) result }
         ensures data_size { IfOk result (λ b. length b.body ≤ LARGEST_DATA) }
         ensures meta_size { IfOk result (λ b. length b.meta ≤ LARGEST_META) }
+        ensures absent { IsErrOf result ShelfStop.Absent → Rose (absences self.old) (absences self.new) }
+        ensures absences_never_fall { absences self.old ≤ absences self.new }
         ensures failed { IsErrOf result ShelfStop.Failed → Rose (faults self.old) (faults self.new) }
         ensures steady { result ≢ Err ShelfStop.Failed → faults self.new ≡ faults self.old }
         ensures never_falls { faults self.old ≤ faults self.new }

@@ -1,1 +1,2 @@
 pub mod FewEvents
+pub mod Sample

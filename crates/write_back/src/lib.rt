@@ -3,5 +3,7 @@
 
 mod parts;
 mod rewriting;
+#[cfg(test)]
+mod tests;
 
 pub use rewriting::{RewriteStop, Rewriting};

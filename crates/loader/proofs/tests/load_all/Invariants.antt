@@ -1,4 +1,4 @@
-use Rattle.std.proofs.Common.{◌≡◌, ◌≢◌, ℕ, ◌-◌, ◌≤◌, false}
+use Rattle.std.proofs.Common.{◌≡◌, ◌≢◌, ◌-◌, ◌≤◌, false}
 use Rattle.std.specs.Prelude.{None}
 use Rattle.region_words.specs.Past.{region_after}
 use Rattle.region_words.specs.Told.{OnTold}

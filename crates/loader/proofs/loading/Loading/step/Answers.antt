@@ -1,6 +1,7 @@
+use Rattle.std.proofs.Common.{arith}
 use Rattle.std.proofs.lemmas.Result.{err_from_is_err_and}
 use Rattle.loader.specs.Loads.{HasLoaded}
-use Rattle.loader.proofs.Telling.{told_after, stops}
+use Rattle.loader.proofs.Telling.{told_after, stops, size_told}
 use Rattle.loader.proofs.loading.Loading.step.Goals as goal
 
 pub returns-in_err-take_in-clause-err : goal.returns-in_err-take_in-clause-err
@@ -14,3 +15,6 @@ pub returns-clause-told : goal.returns-clause-told
 returns-clause-told g c =
     told_after (HasLoaded c.take_in.new.self) c.args.self.now c.in_ok-value.value _ _ c.ask.ensures.sound c.in_ok-value.ensures.goes c.requires.lock c.requires.so_far
     c.in_ok-value.ensures.value c.in_ok-take_in.ensures.told
+
+pub returns-clause-answered : goal.returns-clause-answered
+returns-clause-answered g c = size_told c.take_in.new.self (g.S.Share.state c.ask.new.share) (c.went.ensures.begun (omega (arith, c.in_ok-take_in.ensures.loads))) (returns-clause-told g c)

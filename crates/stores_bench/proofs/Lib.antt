@@ -1,0 +1,6 @@
+mod Held
+mod NotApart
+mod Owed
+mod Roomy
+mod Going
+mod RowsOwed
