@@ -1,27 +1,25 @@
 -- An opener that begins a call is tied to its share as before.
-use Rattle.std.proofs.Common.{◌≡◌, ◌≢◌, ℕ, ◌+◌, ◌<◌, ◌≤◌, arith, Bool, true, false, cond, List, length, refl, sym, ◌∙◌, subst, ap}
-use Rattle.std.specs.Prelude.{Option, Some, None, ⊤, nat_le, ◌==◌}
+use Rattle.std.proofs.Common.{◌≡◌, ℕ, ◌<◌, arith, Bool, true, false, cond, List, length, refl, sym, ◌∙◌, subst, ap}
+use Rattle.std.specs.Prelude.{Option, Some, None, nat_le, ◌==◌}
 use Rattle.std.proofs.lemmas.Bool.Decides.{nat_tests}
 use Rattle.change_log.specs.declared.call.Call.{Call}
 use Rattle.change_log.specs.declared.call.Call.TheVariants as call
 use Rattle.lock_rules.specs.declared.table.LockKind.TheVariants.{Shared, Exclusive}
 use Rattle.region_words.specs.Region.{Region}
 use Rattle.region_words.specs.Past.{region_after, changes_of}
-use Rattle.region_words.specs.Told.{History, OnTold, changes_told}
+use Rattle.region_words.specs.Told.{changes_told}
 use Rattle.region_words.specs.Share.{ShareState, Agrees, IsSound}
 use Rattle.region_words.specs.declared.event.Event.{Event}
 use Rattle.region_words.proofs.Telling.{told_and, told_map}
 use Rattle.loader.specs.declared.loaded.Image.{Image}
 use Rattle.opener.specs.State.{OpenerState}
 use Rattle.opener.specs.Calls.{IsRead}
-use Rattle.opener.specs.Begins.{IsFirst, IsFirstRead, Begins, begun_at, call_refusal, refusal, refusal_at}
+use Rattle.opener.specs.Begins.{IsFirst, IsFirstRead, begun_at, call_refusal, refusal, refusal_at}
 use Rattle.opener.specs.Ends.{Reads, ReadsBy}
-use Rattle.opener.specs.Opener.{Tied, Knows, Facts, StageIs, IsAtStage, running_as, held_by, lock_at, lock_in, is_ended}
-use Rattle.opener.specs.declared.calls.Refused.{Refused}
+use Rattle.opener.specs.Opener.{Tied, Knows, StageIs, IsAtStage, running_as, held_by, lock_at, lock_in, is_ended}
 use Rattle.opener.specs.declared.calls.Refused.TheVariants as why
 use Rattle.opener.specs.declared.work.Running.{Running}
 use Rattle.opener.specs.declared.work.Stage.{Stage}
-use Rattle.opener.specs.declared.work.Stage.TheVariants as stage
 use Rattle.opener.specs.declared.work.Work.{Work}
 use Rattle.opener.specs.declared.work.Work.TheVariants.{Idle, Ended, Runs}
 use Rattle.opener.proofs.Carry.{changes_are, exclusive_if}

@@ -1,5 +1,5 @@
 -- What an opener knows of its share's journal is carried over what others do, and over its own calls.
-use Rattle.std.proofs.Common.{◌≡◌, ◌≢◌, ℕ, zero, suc, ◌+◌, ◌<◌, ◌≤◌, arith, Bool, true, false, cond, List, [], ◌∷◌, ◌++◌, length, take, refl, sym, ◌∙◌, subst, ap, append_assoc, length-append, inl, inr}
+use Rattle.std.proofs.Common.{◌≡◌, ℕ, ◌<◌, ◌≤◌, arith, Bool, true, false, cond, List, ◌++◌, length, take, refl, sym, ◌∙◌, subst, ap, append_assoc, length-append}
 use Rattle.std.specs.Prelude.{Option, Some, None, ◌==◌}
 use Rattle.std.proofs.lemmas.List.{take-append-le}
 use Rattle.std.proofs.lemmas.Bool.Decides.{nat_tests}
@@ -11,23 +11,20 @@ use Rattle.lock_rules.specs.declared.table.LockKind.{LockKind}
 use Rattle.lock_rules.specs.declared.table.LockKind.TheVariants.{Shared, Exclusive}
 use Rattle.region_words.specs.Region.{Region, IsRegion, base}
 use Rattle.region_words.specs.Past.{region_after, changes_of, locks_after, NoneOf}
-use Rattle.region_words.specs.Apart.{Apart}
 use Rattle.region_words.specs.Lawful.{Lawful, Between}
-use Rattle.region_words.specs.Outcome.{AtRest}
-use Rattle.region_words.specs.Told.{History, OnTold, OnBoth, changes_told}
-use Rattle.region_words.specs.Share.{ShareState, Agrees, After, Left, Grows, IsSound, made_by}
+use Rattle.region_words.specs.Told.{History, OnTold, changes_told}
+use Rattle.region_words.specs.Share.{ShareState, Agrees, After, Left, Grows, made_by}
 use Rattle.region_words.specs.Local.{lock_after}
 use Rattle.region_words.specs.declared.event.Event.{Event}
 use Rattle.region_words.proofs.Held.{held}
 use Rattle.region_words.proofs.Later.{lock_others, reaches_later}
 use Rattle.region_words.proofs.LockOf.{holds_some}
 use Rattle.region_words.proofs.ReadLaws.{apart_front, changes_more, lawful_front}
-use Rattle.region_words.proofs.Telling.{told_map, told_and, told_step, grows_to, grows_from}
+use Rattle.region_words.proofs.Telling.{told_and, told_step, grows_to, grows_from}
 use Rattle.loader.specs.Loads.{HasLoaded, Load as Loading}
 use Rattle.loader.specs.declared.loaded.Image.{Image}
 use Rattle.opener.specs.State.{OpenerState}
-use Rattle.opener.specs.Opener.{Facts, Knows, Tied, ImageIs, WasShown, WasPeeked, ReplyIs, EndIs, StopIs, StageIs, WorkIs, IsAt, held_by, lock_at, lock_in, is_ended}
-use Rattle.opener.specs.declared.calls.Stop.{Stop}
+use Rattle.opener.specs.Opener.{Facts, Knows, Tied, ImageIs, ReplyIs, EndIs, StopIs, StageIs, WorkIs, IsAt, held_by, lock_at, lock_in, is_ended}
 use Rattle.opener.specs.declared.work.Running.{Running}
 use Rattle.opener.specs.declared.work.End.{End}
 use Rattle.opener.specs.declared.work.End.TheVariants as end

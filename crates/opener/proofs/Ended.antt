@@ -1,20 +1,18 @@
 -- A call ends, and its answer stands in the history.
-use Rattle.std.proofs.Common.{◌≡◌, ℕ, ◌+◌, ◌<◌, ◌≤◌, arith, Bool, true, false, List, [], ◌∷◌, ◌++◌, length, take, refl, sym, ◌∙◌, subst, ap}
-use Rattle.std.specs.Prelude.{Option, Some, None, ⊤}
+use Rattle.std.proofs.Common.{◌≡◌, ℕ, arith, List, [], ◌∷◌, length, refl, sym, subst}
+use Rattle.std.specs.Prelude.{None, ⊤}
 use Rattle.change_log.specs.declared.call.Reply.{Reply}
-use Rattle.region_words.specs.Region.{Region, IsRegion}
+use Rattle.region_words.specs.Region.{Region}
 use Rattle.region_words.specs.Past.{region_after, changes_of}
-use Rattle.region_words.specs.Lawful.{Lawful}
-use Rattle.region_words.specs.Told.{History, OnTold, changes_told}
+use Rattle.region_words.specs.Told.{OnTold, changes_told}
 use Rattle.region_words.specs.Share.{ShareState, Goes, unlocked_by}
-use Rattle.region_words.specs.Local.{event_of, lock_after}
+use Rattle.region_words.specs.Local.{event_of}
 use Rattle.region_words.specs.declared.event.What.TheVariants.{Unlock}
 use Rattle.region_words.specs.declared.event.Event.{Event}
 use Rattle.opener.specs.State.{OpenerState}
 use Rattle.opener.specs.Ends.{Finishes, answer_of}
-use Rattle.opener.specs.Opener.{Tied, Facts, OnAnswer, IsAnswer, HasCause, HasReason, StopIs, EndIs, MayEnd, IsSeen, running_as}
+use Rattle.opener.specs.Opener.{Tied, OnAnswer, IsAnswer, HasCause, HasReason, StopIs, EndIs, IsSeen, running_as}
 use Rattle.opener.specs.declared.calls.Step.{Step}
-use Rattle.opener.specs.declared.calls.Step.TheVariants as step
 use Rattle.opener.specs.declared.calls.Stop.{Stop}
 use Rattle.opener.specs.declared.calls.Stop.TheVariants.{Fault, Memory, JournalFull, NotWhole, Version, Flags}
 use Rattle.opener.specs.declared.work.Running.{Running}

@@ -1,21 +1,19 @@
 -- Holds and releases.
-use Rattle.std.proofs.Common.{◌≡◌, ℕ, ◌+◌, ◌-◌, ◌<◌, ◌≤◌, arith, Bool, true, false, List, [], ◌∷◌, ◌++◌, length, take, refl, sym, ◌∙◌, subst, ap}
-use Rattle.std.specs.Prelude.{Option, Some, None, ⊤}
-use Rattle.change_log.specs.Acts.{replay}
-use Rattle.change_log.specs.History.{reply_in}
+use Rattle.std.proofs.Common.{◌≡◌, ℕ, ◌+◌, ◌-◌, ◌<◌, ◌≤◌, arith, List, [], ◌∷◌, length, refl, sym, ◌∙◌, subst}
+use Rattle.std.specs.Prelude.{⊤}
 use Rattle.change_log.specs.declared.call.Call.{Call}
 use Rattle.change_log.specs.declared.call.Call.TheVariants as call
 use Rattle.change_log.specs.declared.call.Reply.TheVariants.{Done}
 use Rattle.lock_rules.specs.declared.table.LockKind.TheVariants.{Exclusive}
 use Rattle.lock_rules.specs.declared.table.Tried.TheVariants.{Taken}
-use Rattle.region_words.specs.Region.{Region, IsRegion}
-use Rattle.region_words.specs.Past.{region_after, changes_of}
+use Rattle.region_words.specs.Region.{Region}
+use Rattle.region_words.specs.Past.{changes_of}
 use Rattle.region_words.specs.Apart.{Apart}
 use Rattle.region_words.specs.Lawful.{Lawful, Between}
 use Rattle.region_words.specs.Outcome.{AtRest}
-use Rattle.region_words.specs.Told.{History, OnTold, changes_told}
+use Rattle.region_words.specs.Told.{OnTold, changes_told}
 use Rattle.region_words.specs.Share.{ShareState, Goes, Tries, locked, unlocked_by}
-use Rattle.region_words.specs.Local.{event_of, lock_after}
+use Rattle.region_words.specs.Local.{event_of}
 use Rattle.region_words.specs.declared.event.What.TheVariants.{Lock, Unlock}
 use Rattle.region_words.specs.declared.event.Event.{Event}
 use Rattle.region_words.proofs.Held.{Apart-front}
@@ -24,10 +22,10 @@ use Rattle.region_words.proofs.Telling.{told_map, told_and}
 use Rattle.opener.specs.State.{OpenerState}
 use Rattle.opener.specs.Continues.{SameCall}
 use Rattle.opener.specs.Ends.{answer_of}
-use Rattle.opener.specs.Opener.{Tied, Knows, Facts, IsAnswer, ReplyIs, EndIs, IsAt, running_as, held_by, lock_in, is_ended}
+use Rattle.opener.specs.Opener.{Tied, Knows, Facts, IsAnswer, ReplyIs, IsAt, running_as, lock_in, is_ended}
 use Rattle.opener.specs.declared.work.Running.{Running}
 use Rattle.opener.specs.declared.work.Stage.TheVariants as stage
-use Rattle.opener.specs.declared.work.Work.TheVariants.{Idle, Runs}
+use Rattle.opener.specs.declared.work.Work.TheVariants.{Idle}
 use Rattle.opener.proofs.Carry.{tied_after, told_call, changes_are, more_changes, image_later, exclusive_if}
 use Rattle.opener.proofs.Stopped.{nothing_told}
 use Rattle.opener.proofs.Ended.{is_answer}

@@ -1,17 +1,17 @@
 -- An opener gives its lock up.
-use Rattle.std.proofs.Common.{◌≡◌, ◌≢◌, ℕ, ◌+◌, ◌<◌, ◌≤◌, arith, Bool, true, false, cond, List, [], ◌∷◌, ◌++◌, length, refl, sym, ◌∙◌, subst, ap, inl, inr, not, ◌||◌}
-use Rattle.std.specs.Prelude.{Option, Some, None, ⊤, ◌==◌}
+use Rattle.std.proofs.Common.{◌≡◌, ℕ, ◌≤◌, Bool, true, false, cond, List, ◌∷◌, refl, sym, ◌∙◌, subst, not, ◌||◌}
+use Rattle.std.specs.Prelude.{Some, None}
 use Rattle.std.specs.FinSet as set
 use Rattle.lock_rules.specs.Locks.{Locks, holds, holds_exclusive}
 use Rattle.lock_rules.specs.declared.table.LockKind.{LockKind}
 use Rattle.lock_rules.specs.declared.table.LockKind.TheVariants.{Shared, Exclusive}
-use Rattle.region_words.specs.Region.{Region, IsRegion}
-use Rattle.region_words.specs.Past.{region_after, changes_of, locks_after, has_died}
+use Rattle.region_words.specs.Region.{Region}
+use Rattle.region_words.specs.Past.{locks_after, has_died}
 use Rattle.region_words.specs.Apart.{Apart}
 use Rattle.region_words.specs.Lawful.{Lawful, Between}
 use Rattle.region_words.specs.Outcome.{AtRest}
-use Rattle.region_words.specs.Told.{History, OnTold, changes_told}
-use Rattle.region_words.specs.Share.{ShareState, Agrees, Goes, MayMake, lock_of, unlocked_by}
+use Rattle.region_words.specs.Told.{History}
+use Rattle.region_words.specs.Share.{ShareState, MayMake, lock_of}
 use Rattle.region_words.specs.Local.{event_of, lock_after}
 use Rattle.region_words.specs.declared.event.What.TheVariants.{Unlock}
 use Rattle.region_words.specs.declared.event.Event.{Event}
@@ -20,7 +20,7 @@ use Rattle.region_words.proofs.LockOf.{holds_some}
 use Rattle.region_words.proofs.Notices.{shared_free, free_rests}
 use Rattle.region_words.proofs.Telling.{told_map}
 use Rattle.opener.specs.State.{OpenerState}
-use Rattle.opener.specs.Opener.{Tied, Knows, Facts, running_as, lock_in, read_lock}
+use Rattle.opener.specs.Opener.{Tied, Knows, running_as}
 use Rattle.opener.specs.declared.work.Running.{Running}
 use Rattle.opener.specs.declared.work.End.{End}
 use Rattle.opener.specs.declared.work.Stage.TheVariants as stage

@@ -1,5 +1,5 @@
 -- What an opener knows after a load.
-use Rattle.std.proofs.Common.{◌≡◌, ℕ, zero, ◌+◌, ◌<◌, ◌≤◌, arith, Bool, true, false, cond, List, [], ◌∷◌, ◌++◌, length, take, refl, sym, ◌∙◌, subst, ap, inl, inr, ◌⊎◌, take_all}
+use Rattle.std.proofs.Common.{◌≡◌, ℕ, ◌<◌, arith, Bool, true, false, cond, List, [], length, take, refl, sym, ◌∙◌, subst, ap, inl, inr, take_all}
 use Rattle.std.specs.Prelude.{Option, Some, None, ⊤, ◌==◌, is_some, unwrap_or, option_and_then}
 use Rattle.std.proofs.lemmas.Bool.Decides.{nat_tests}
 use Rattle.std.specs.FinMap as fin
@@ -11,16 +11,15 @@ use Rattle.lock_rules.specs.declared.table.LockKind.TheVariants.{Shared, Exclusi
 use Rattle.meta_record.specs.declared.record.RecordFault.{RecordFault}
 use Rattle.meta_record.specs.declared.record.RecordFault.TheVariants as fault
 use Rattle.meta_record.specs.declared.shown.Shown.TheVariants.{Whole}
-use Rattle.region_words.specs.Region.{Region, IsRegion, IsAccepted, record_of, flag, payload_of, file_size, shown, size_shown, size_of, map_shown, map_in, base}
+use Rattle.region_words.specs.Region.{Region, IsRegion, IsAccepted, record_of, flag, payload_of, file_size, shown, size_of, map_shown, map_in, base}
 use Rattle.region_words.specs.Past.{region_after, changes_of}
 use Rattle.region_words.specs.Apart.{Apart}
 use Rattle.region_words.specs.Lawful.{Lawful, map_after}
-use Rattle.region_words.specs.Rows.{standing}
-use Rattle.region_words.specs.Standings.{IsStandingOf, standing_of}
+use Rattle.region_words.specs.Standings.{standing_of}
 use Rattle.region_words.specs.declared.standing.Standing.{Standing}
 use Rattle.region_words.specs.Outcome.{AtRest}
-use Rattle.region_words.specs.Told.{History, OnTold, changes_told}
-use Rattle.region_words.specs.Share.{ShareState, Agrees, Goes, loaded}
+use Rattle.region_words.specs.Told.{OnTold, changes_told}
+use Rattle.region_words.specs.Share.{ShareState, Goes, loaded}
 use Rattle.region_words.specs.Local.{lock_after}
 use Rattle.region_words.specs.declared.event.Event.{Event}
 use Rattle.region_words.proofs.MainLaw.{main_law}
@@ -32,15 +31,15 @@ use Rattle.loader.specs.declared.loaded.Image.{Image}
 use Rattle.loader.specs.declared.loaded.Loaded.{Loaded}
 use Rattle.opener.specs.State.{OpenerState}
 use Rattle.opener.specs.Continues.{SameCall}
-use Rattle.opener.specs.Ends.{Finishes, GoesOn, Leaves, LeavesBy, EndsLoad, answer_of, stop_of}
-use Rattle.opener.specs.Opener.{Tied, Knows, Facts, ImageIs, WasShown, ReplyIs, EndIs, MayEnd, StopIs, OnAnswer, IsAnswer, HasCause, running_as, held_by, read_lock, lock_in, lock_at}
+use Rattle.opener.specs.Ends.{Leaves, LeavesBy, EndsLoad, stop_of}
+use Rattle.opener.specs.Opener.{Tied, Facts, ImageIs, ReplyIs, EndIs, MayEnd, StopIs, OnAnswer, IsAnswer, HasCause, running_as, held_by, read_lock}
 use Rattle.opener.specs.declared.calls.Step.{Step}
 use Rattle.opener.specs.declared.calls.Stop.TheVariants as why
 use Rattle.opener.specs.declared.work.Running.{Running}
 use Rattle.opener.specs.declared.work.End.{End}
 use Rattle.opener.specs.declared.work.End.TheVariants as end
 use Rattle.opener.specs.declared.work.Stage.TheVariants.{Load, Unlock}
-use Rattle.opener.specs.declared.work.Work.TheVariants.{Idle, Runs}
+use Rattle.opener.specs.declared.work.Work.TheVariants.{Idle}
 use Rattle.opener.proofs.Carry.{tied_after, told_call, changes_are}
 use Rattle.opener.proofs.Stopped.{nothing_told}
 use Rattle.opener.proofs.Leaving.{rests_shared}

@@ -1,5 +1,5 @@
 -- What an opener knows after its two peeks.
-use Rattle.std.proofs.Common.{◌≡◌, ℕ, ◌+◌, ◌<◌, ◌≤◌, arith, Bool, true, false, cond, List, [], ◌∷◌, ◌++◌, length, take, refl, sym, ◌∙◌, subst, ap, inl, inr, ◌⊎◌, take_all}
+use Rattle.std.proofs.Common.{◌≡◌, ℕ, arith, Bool, true, false, cond, List, ◌++◌, length, take, refl, sym, ◌∙◌, subst, ap, inl, inr, take_all}
 use Rattle.std.specs.Prelude.{Option, Some, None, ⊤, ◌==◌, ◌&&◌}
 use Rattle.std.proofs.lemmas.List.{take-append-le}
 use Rattle.std.proofs.lemmas.Bool.Decides.{nat_tests}
@@ -13,7 +13,7 @@ use Rattle.region_words.specs.Past.{region_after, changes_of}
 use Rattle.region_words.specs.Apart.{Apart}
 use Rattle.region_words.specs.Lawful.{Lawful, map_after}
 use Rattle.region_words.specs.Images.{sequence_at, checksum_at}
-use Rattle.region_words.specs.Told.{History, OnTold, changes_told}
+use Rattle.region_words.specs.Told.{OnTold, changes_told}
 use Rattle.region_words.specs.Share.{ShareState, Goes, loaded}
 use Rattle.region_words.specs.declared.standing.Standing.{Standing}
 use Rattle.region_words.specs.declared.event.Event.{Event}
@@ -27,15 +27,14 @@ use Rattle.loader.specs.declared.loaded.Image.{Image}
 use Rattle.opener.specs.State.{OpenerState}
 use Rattle.opener.specs.Continues.{SameCall}
 use Rattle.opener.specs.Ends.{Finishes, GoesOn, Reads, ReadsBy, Replies, answer_of, current}
-use Rattle.opener.specs.Opener.{Tied, Facts, ImageIs, WasShown, WasPeeked, ReplyIs, EndIs, OnAnswer, IsAnswer, running_as, held_by, read_lock, lock_in}
+use Rattle.opener.specs.Opener.{Tied, ImageIs, WasShown, WasPeeked, OnAnswer, IsAnswer, running_as, held_by}
 use Rattle.opener.specs.declared.calls.Step.{Step}
-use Rattle.opener.specs.declared.calls.Stop.TheVariants as why
 use Rattle.opener.specs.declared.work.Running.{Running}
 use Rattle.opener.specs.declared.work.End.{End}
 use Rattle.opener.specs.declared.work.End.TheVariants as end
 use Rattle.opener.specs.declared.work.Stage.{Stage}
 use Rattle.opener.specs.declared.work.Stage.TheVariants.{PeekSequence, LockShared, Load}
-use Rattle.opener.specs.declared.work.Work.TheVariants.{Idle, Runs}
+use Rattle.opener.specs.declared.work.Work.TheVariants.{Idle}
 use Rattle.opener.proofs.Carry.{tied_after, told_call, changes_are, more_changes}
 use Rattle.opener.proofs.Stopped.{nothing_told}
 use Rattle.opener.proofs.Ended.{is_answer}

@@ -1,29 +1,24 @@
 -- What an opener knows after each of its stages.
-use Rattle.std.proofs.Common.{◌≡◌, ◌≢◌, ℕ, zero, suc, ◌+◌, ◌<◌, ◌≤◌, arith, Bool, true, false, cond, List, [], ◌∷◌, ◌++◌, length, take, refl, sym, ◌∙◌, subst, ap, inl, inr, take_all}
-use Rattle.std.specs.Prelude.{Option, Some, None, ⊤, ◌==◌}
-use Rattle.change_log.specs.declared.call.Reply.{Reply}
+use Rattle.std.proofs.Common.{◌≡◌, ℕ, arith, false, [], ◌∷◌, length, refl, sym, ap}
+use Rattle.std.specs.Prelude.{Some, None, ⊤}
 use Rattle.lock_rules.specs.declared.table.LockKind.{LockKind}
-use Rattle.lock_rules.specs.declared.table.LockKind.TheVariants.{Shared, Exclusive}
+use Rattle.lock_rules.specs.declared.table.LockKind.TheVariants.{Shared}
 use Rattle.lock_rules.specs.declared.table.Tried.TheVariants.{Taken, Busy}
-use Rattle.region_words.specs.Region.{Region, IsRegion}
 use Rattle.region_words.specs.Past.{region_after, changes_of}
-use Rattle.region_words.specs.Lawful.{Lawful}
 use Rattle.region_words.specs.Images.{checksum_at}
-use Rattle.region_words.specs.Told.{History, OnTold, changes_told}
+use Rattle.region_words.specs.Told.{OnTold, changes_told}
 use Rattle.region_words.specs.Share.{ShareState, Goes, Tries, loaded, locked, refused}
-use Rattle.region_words.specs.Local.{event_of, lock_after}
+use Rattle.region_words.specs.Local.{event_of}
 use Rattle.region_words.specs.declared.event.What.TheVariants.{Lock}
-use Rattle.region_words.specs.declared.event.Event.{Event}
 use Rattle.region_words.specs.declared.stops.Peek.{Peek}
 use Rattle.region_words.proofs.Telling.{told_and}
 use Rattle.loader.specs.Loads.{HasLoaded, is_done, Load as Loading}
 use Rattle.opener.specs.State.{OpenerState}
 use Rattle.opener.specs.Continues.{SameCall}
 use Rattle.opener.specs.Ends.{IsFresh}
-use Rattle.opener.specs.Opener.{Tied, Facts, running_as, held_by, read_lock, lock_at, lock_in, IsAt}
+use Rattle.opener.specs.Opener.{Tied, running_as, held_by, read_lock}
 use Rattle.opener.specs.declared.work.Running.{Running}
-use Rattle.opener.specs.declared.work.Stage.{Stage}
-use Rattle.opener.specs.declared.work.Stage.TheVariants.{PeekChecksum, PeekSequence, LockShared, Load, Unlock, Hold, Release}
+use Rattle.opener.specs.declared.work.Stage.TheVariants.{PeekChecksum, PeekSequence, LockShared, Load}
 use Rattle.opener.proofs.Carry.{tied_after, changes_are, more_changes, image_later}
 use Rattle.opener.proofs.Stopped.{nothing_told}
 

@@ -1,18 +1,18 @@
 -- A call on the share that was not answered leaves the opener tied to it.
-use Rattle.std.proofs.Common.{◌≡◌, ℕ, ◌<◌, ◌≤◌, arith, Bool, true, false, List, [], refl, sym, ◌∙◌, subst, ap, lit≤}
+use Rattle.std.proofs.Common.{◌≡◌, ℕ, arith, false, refl, sym, ◌∙◌, subst, lit≤}
 use Rattle.std.specs.Prelude.{Option, Some, None, ⊤}
 use Rattle.lock_rules.specs.declared.table.LockKind.{LockKind}
 use Rattle.region_words.specs.Told.{History, OnTold}
-use Rattle.region_words.specs.Share.{ShareState, After, Goes, Fails, IsTurnedAway, Stops, StopsTrying, failed, turned_away, unmoved}
+use Rattle.region_words.specs.Share.{ShareState, Goes, Fails, IsTurnedAway, Stops, StopsTrying, failed, turned_away, unmoved}
 use Rattle.region_words.specs.declared.stops.ShareStop.{ShareStop}
 use Rattle.region_words.specs.declared.stops.ShareStop.TheVariants.{Failed, Turn, Memory, JournalFull}
 use Rattle.opener.specs.State.{OpenerState}
 use Rattle.opener.specs.Calls.{AfterStop}
-use Rattle.opener.specs.Opener.{Tied, Facts, running_as, held_by, lock_at, lock_in, IsAt}
+use Rattle.opener.specs.Opener.{Tied, running_as, held_by, lock_at, lock_in}
 use Rattle.opener.specs.declared.calls.Step.{Step}
 use Rattle.opener.specs.declared.work.Running.{Running}
 use Rattle.opener.specs.declared.work.Stage.{Stage}
-use Rattle.opener.specs.declared.work.Work.TheVariants.{Idle, Ended, Runs}
+use Rattle.opener.specs.declared.work.Work.TheVariants.{Idle, Ended}
 use Rattle.opener.proofs.Carry.{tied_after}
 
 pub nothing_told : (t : Option History) → OnTold t (λ k. ⊤)

@@ -1,5 +1,5 @@
 -- What an opener is left with after a stage.
-use Rattle.std.specs.Prelude.{◌≡◌, ℕ, ◌<◌, ◌⊎◌, Bool, true, false, Option, Some, None, ◌==◌, ◌&&◌, if◌then◌else◌}
+use Rattle.std.specs.Prelude.{◌≡◌, ℕ, ◌⊎◌, Bool, true, false, Option, Some, None, ◌==◌, ◌&&◌, if◌then◌else◌}
 use Rattle.change_log.specs.History.{reply_in}
 use Rattle.change_log.specs.declared.call.Reply.{Reply}
 use Rattle.change_log.specs.declared.call.Reply.TheVariants.{Done}

@@ -1,5 +1,5 @@
 -- An opener and the share that it uses.
-use Rattle.std.specs.Prelude.{◌≡◌, ◌≢◌, ℕ, ◌+◌, ◌<◌, ◌≤◌, ◌⊎◌, Bool, true, false, List, ◌++◌, length, take, Option, Some, None, Err, ⊤, ◌==◌, if◌then◌else◌}
+use Rattle.std.specs.Prelude.{◌≡◌, ◌≢◌, ℕ, ◌<◌, ◌≤◌, ◌⊎◌, Bool, true, false, List, ◌++◌, length, take, Option, Some, None, Err, ⊤, ◌==◌, if◌then◌else◌}
 use Rattle.change_log.specs.Acts.{replay}
 use Rattle.change_log.specs.History.{reply_in}
 use Rattle.change_log.specs.declared.call.Call.{Call}

@@ -1,4 +1,4 @@
-use Rattle.std.proofs.Common.{◌≡◌, sym, ap, ◌∙◌}
+use Rattle.std.proofs.Common.{sym, ap, ◌∙◌}
 use Rattle.opener.specs.Opener.{running_as}
 use Rattle.opener.specs.declared.work.Running.{Running}
 use Rattle.opener.proofs.Begun.{begun_tied}

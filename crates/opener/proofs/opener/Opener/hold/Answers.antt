@@ -1,4 +1,4 @@
-use Rattle.std.proofs.Common.{◌≡◌, sym, subst, refl}
+use Rattle.std.proofs.Common.{sym, subst, refl}
 use Rattle.lock_rules.specs.declared.table.LockKind.TheVariants.{Exclusive}
 use Rattle.region_words.specs.Told.{OnTold}
 use Rattle.region_words.specs.Share.{Tries}

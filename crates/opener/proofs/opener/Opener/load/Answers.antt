@@ -1,7 +1,5 @@
-use Rattle.std.proofs.Common.{◌≡◌, sym, subst, refl, ap}
+use Rattle.std.proofs.Common.{sym, subst, refl}
 use Rattle.region_words.specs.Past.{region_after}
-use Rattle.region_words.specs.Told.{OnTold}
-use Rattle.region_words.specs.Share.{Stops}
 use Rattle.region_words.proofs.Telling.{told_map}
 use Rattle.loader.specs.Loads.{HasLoaded, IsLoadOf, StopsLoading, Says, Load as Loading}
 use Rattle.opener.specs.State.{OpenerState}
@@ -11,7 +9,7 @@ use Rattle.opener.specs.declared.calls.Stop.TheVariants as why
 use Rattle.opener.specs.declared.work.End.TheVariants as end
 use Rattle.opener.specs.declared.work.Stage.TheVariants.{Load}
 use Rattle.opener.proofs.Stages.{loaded_tied}
-use Rattle.opener.proofs.Loads.{left_tied, left_answer, left_cause, ended_load, ends_keep, next_end, refused_left, refused_ends, short_left}
+use Rattle.opener.proofs.Loads.{left_tied, left_answer, ended_load, ends_keep, next_end, refused_left, refused_ends, short_left}
 use Rattle.opener.proofs.Stopped.{stopped_tied}
 use Rattle.opener.proofs.opener.Opener.load.Goals as goal
 

@@ -1,4 +1,4 @@
-use Rattle.std.proofs.Common.{◌≡◌, sym, subst}
+use Rattle.std.proofs.Common.{sym, subst}
 use Rattle.lock_rules.specs.declared.table.LockKind.TheVariants.{Shared}
 use Rattle.region_words.specs.Share.{Tries}
 use Rattle.opener.specs.State.{OpenerState}

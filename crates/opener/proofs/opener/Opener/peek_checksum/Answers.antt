@@ -1,8 +1,7 @@
-use Rattle.std.proofs.Common.{◌≡◌, sym, subst}
+use Rattle.std.proofs.Common.{sym, subst}
 use Rattle.opener.specs.State.{OpenerState}
 use Rattle.opener.specs.Opener.{Tied}
 use Rattle.opener.proofs.Stages.{peeked_tied}
-use Rattle.opener.proofs.Stopped.{stopped_tied}
 use Rattle.opener.proofs.opener.Opener.peek_checksum.Goals as goal
 
 pub returns-in-Ok-clause-tied : goal.returns-in-Ok-clause-tied

@@ -1,8 +1,6 @@
-use Rattle.std.proofs.Common.{◌≡◌, sym, subst, ap, ◌∙◌}
+use Rattle.std.proofs.Common.{◌≡◌, sym}
 use Rattle.std.specs.Prelude.{Some}
-use Rattle.opener.specs.State.{OpenerState}
 use Rattle.opener.specs.Ends.{current}
-use Rattle.opener.specs.Opener.{Tied}
 use Rattle.opener.proofs.Notices.{current_tied, current_answer, reading_tied}
 use Rattle.opener.proofs.opener.Opener.peek_sequence.Goals as goal
 

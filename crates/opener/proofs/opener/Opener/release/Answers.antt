@@ -1,4 +1,4 @@
-use Rattle.std.proofs.Common.{◌≡◌, sym, subst}
+use Rattle.std.proofs.Common.{sym, subst}
 use Rattle.region_words.specs.Told.{OnTold}
 use Rattle.opener.specs.State.{OpenerState}
 use Rattle.opener.specs.Opener.{Tied, OnAnswer, IsAnswer}

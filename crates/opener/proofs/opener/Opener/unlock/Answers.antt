@@ -1,6 +1,3 @@
-use Rattle.std.proofs.Common.{◌≡◌, sym, subst}
-use Rattle.opener.specs.State.{OpenerState}
-use Rattle.opener.specs.Opener.{Tied}
 use Rattle.opener.specs.declared.work.Stage.TheVariants.{Unlock}
 use Rattle.opener.proofs.Leaving.{may_leave}
 use Rattle.opener.proofs.Ended.{unlocked_tied, unlocked_answer, unlocked_cause}
