@@ -1,0 +1,9 @@
+pub mod Carry
+pub mod Stopped
+pub mod Stages
+pub mod Leaving
+pub mod Ended
+pub mod Holds
+pub mod Loads
+pub mod Notices
+pub mod Begun

@@ -1,0 +1,69 @@
+-- A call on the share that was not answered leaves the opener tied to it.
+use Rattle.std.proofs.Common.{◌≡◌, ℕ, arith, false, refl, sym, ◌∙◌, subst, lit≤}
+use Rattle.std.specs.Prelude.{Option, Some, None, ⊤}
+use Rattle.lock_rules.specs.declared.table.LockKind.{LockKind}
+use Rattle.region_words.specs.Told.{History, OnTold}
+use Rattle.region_words.specs.Share.{ShareState, Goes, Fails, IsTurnedAway, Stops, StopsTrying, failed, turned_away, unmoved}
+use Rattle.region_words.specs.declared.stops.ShareStop.{ShareStop}
+use Rattle.region_words.specs.declared.stops.ShareStop.TheVariants.{Failed, Turn, Memory, JournalFull}
+use Rattle.opener.specs.State.{OpenerState}
+use Rattle.opener.specs.Calls.{AfterStop}
+use Rattle.opener.specs.Opener.{Tied, running_as, held_by, lock_at, lock_in}
+use Rattle.opener.specs.declared.calls.Step.{Step}
+use Rattle.opener.specs.declared.work.Running.{Running}
+use Rattle.opener.specs.declared.work.Stage.{Stage}
+use Rattle.opener.specs.declared.work.Work.TheVariants.{Idle, Ended}
+use Rattle.opener.proofs.Carry.{tied_after}
+
+pub nothing_told : (t : Option History) → OnTold t (λ k. ⊤)
+nothing_told None = tt
+nothing_told (Some h) = tt
+
+-- the opener waits for its turn
+turned_tied : (o : OpenerState) (s t : ShareState) → Tied o s → IsTurnedAway s t → Tied o t
+turned_tied o s t tied away =
+    tied_after o o s t (turned_away s) (λ start past. ⊤) tied away.after refl tied.ended tied.holds tied.deep tied.at (nothing_told t.told)
+    (λ start past region lawful lock facts e. facts)
+
+-- it is dead
+abbrev ended_as : ℕ → OpenerState
+ended_as who = record { who = who; image = None; holds = 0; work = Ended }
+
+failed_tied : (o : OpenerState) (s t : ShareState) → Tied o s → Fails s t → Tied (ended_as o.who) t
+failed_tied o s t tied fails =
+    tied_after o (ended_as o.who) s t (failed s) (λ start past. ⊤) tied fails.after refl refl refl (lit≤ tt) refl (nothing_told t.told)
+    (λ start past region lawful lock facts e. record { image = tt; rests = λ some. absurd (omega (arith, some)); work = tt })
+
+-- it gives its call up, where it holds what its holds take
+abbrev idle_as : OpenerState → OpenerState
+idle_as o = record o { image = None; work = Idle }
+
+idle_tied : (o : OpenerState) (s t : ShareState) → Tied o s → Goes (unmoved s) s t → lock_in o.holds o.work ≡ held_by o.holds → s.ended ≡ false → Tied (idle_as o) t
+idle_tied o s t tied goes free alive =
+    tied_after o (idle_as o) s t (unmoved s) (λ start past. ⊤) tied goes.after refl alive (tied.holds ∙ free) tied.deep tt (nothing_told t.told)
+    (λ start past region lawful lock facts e. record { image = tt; rests = facts.rests; work = tt })
+
+dead_is : (o new : OpenerState) → new.who ≡ o.who → new.holds ≡ 0 → new.image ≡ None → new.work ≡ Ended → new ≡ ended_as o.who
+dead_is o new who holds image work = λ i. record { who = who i; image = image i; holds = holds i; work = work i }
+
+given_up_is : (o new : OpenerState) → new.who ≡ o.who → new.holds ≡ o.holds → new.image ≡ None → new.work ≡ Idle → new ≡ idle_as o
+given_up_is o new who holds image work = λ i. record { who = who i; image = image i; holds = holds i; work = work i }
+
+pub stopped_tied : (o : OpenerState) (running : Running) (stage : Stage) (why : ShareStop) (result : Step) (new : OpenerState) (s t : ShareState) →
+    Tied (running_as o running stage) s → AfterStop why o running stage result new → Stops why s t → Tied new t
+stopped_tied o running stage Turn result new s t tied after stops = subst (λ (n : OpenerState). Tied n t) (sym after.1) (turned_tied (running_as o running stage) s t tied stops)
+stopped_tied o running stage Failed result new s t tied after stops =
+    subst (λ (n : OpenerState). Tied n t) (sym (dead_is o new after.1 after.2 after.3 after.4)) (failed_tied (running_as o running stage) s t tied stops)
+stopped_tied o running stage Memory result new s t tied after stops = absurd stops
+stopped_tied o running stage JournalFull result new s t tied after stops = absurd stops
+
+-- the same of a try for the lock
+pub tried_tied : (o : OpenerState) (running : Running) (stage : Stage) (kind : LockKind) (why : ShareStop) (result : Step) (new : OpenerState) (s t : ShareState) →
+    Tied (running_as o running stage) s → lock_at o.holds stage ≡ held_by o.holds → AfterStop why o running stage result new → StopsTrying kind why s t → Tied new t
+tried_tied o running stage kind Turn result new s t tied free after stops = subst (λ (n : OpenerState). Tied n t) (sym after.1) (turned_tied (running_as o running stage) s t tied stops)
+tried_tied o running stage kind Failed result new s t tied free after stops =
+    subst (λ (n : OpenerState). Tied n t) (sym (dead_is o new after.1 after.2 after.3 after.4)) (failed_tied (running_as o running stage) s t tied stops)
+tried_tied o running stage kind Memory result new s t tied free after stops =
+    subst (λ (n : OpenerState). Tied n t) (sym (given_up_is o new after.1.0 after.1.1 after.1.2 after.1.3)) (idle_tied (running_as o running stage) s t tied stops.0 free tied.ended)
+tried_tied o running stage kind JournalFull result new s t tied free after stops =
+    subst (λ (n : OpenerState). Tied n t) (sym (given_up_is o new after.1.0 after.1.1 after.1.2 after.1.3)) (idle_tied (running_as o running stage) s t tied stops.0 free tied.ended)

@@ -1,0 +1,41 @@
+use Rattle.std.proofs.Common.{sym, subst, refl}
+use Rattle.lock_rules.specs.declared.table.LockKind.TheVariants.{Exclusive}
+use Rattle.region_words.specs.Told.{OnTold}
+use Rattle.region_words.specs.Share.{Tries}
+use Rattle.opener.specs.State.{OpenerState}
+use Rattle.opener.specs.Opener.{Tied, OnAnswer, IsAnswer, running_as}
+use Rattle.opener.specs.declared.work.Stage.TheVariants.{Hold}
+use Rattle.opener.proofs.Stages.{busy_tied}
+use Rattle.opener.proofs.Holds.{held_tied, first_answer}
+use Rattle.opener.proofs.Stopped.{tried_tied}
+use Rattle.opener.proofs.opener.Opener.hold.Goals as goal
+
+pub returns-in-Ok-Taken-clause-tied : goal.returns-in-Ok-Taken-clause-tied
+returns-in-Ok-Taken-clause-tied g c =
+    let s = g.S.Share.state c.args.share.now in
+    let t = g.S.Share.state c.try_lock.new.self in
+    let tries = subst (λ tried. Tries Exclusive tried s t) c.in-Ok-Taken.field-0-is c.in-Ok-Taken.ensures.ok in
+    subst (λ (n : OpenerState). Tied n t) (sym c.done-in-Ok-Taken.ensures.1)
+    (held_tied c.args.self.now c.args.running c.with_lock.result s t c.with_lock.ensures c.requires tries)
+
+pub returns-in-Ok-Taken-clause-answer : goal.returns-in-Ok-Taken-clause-answer
+returns-in-Ok-Taken-clause-answer g c =
+    let s = g.S.Share.state c.args.share.now in
+    let t = g.S.Share.state c.try_lock.new.self in
+    let tries = subst (λ tried. Tries Exclusive tried s t) c.in-Ok-Taken.field-0-is c.in-Ok-Taken.ensures.ok in
+    subst (λ r. OnAnswer r (λ a. OnTold t.told (λ h. IsAnswer a h.start h.past))) (sym c.done-in-Ok-Taken.ensures.0)
+    (first_answer c.args.self.now c.args.running c.with_lock.result s t c.with_lock.ensures c.changes-in-Ok-Taken.result c.requires tries c.changes-in-Ok-Taken.ensures)
+
+pub returns-in-Ok-Busy-clause-tied : goal.returns-in-Ok-Busy-clause-tied
+returns-in-Ok-Busy-clause-tied g c =
+    let s = g.S.Share.state c.args.share.now in
+    let t = g.S.Share.state c.try_lock.new.self in
+    let tries = subst (λ tried. Tries Exclusive tried s t) c.in-Ok-Busy.field-0-is c.in-Ok-Busy.ensures.ok in
+    subst (λ (n : OpenerState). Tied n t) (sym c.blocked.ensures.1)
+    (busy_tied (running_as c.args.self.now c.args.running Hold) Exclusive c.in-Ok-Busy.holder s t c.requires tries)
+
+pub returns-in-Err-clause-tied : goal.returns-in-Err-clause-tied
+returns-in-Err-clause-tied g c =
+    let s = g.S.Share.state c.args.share.now in
+    let t = g.S.Share.state c.try_lock.new.self in
+    tried_tied c.args.self.now c.args.running Hold Exclusive c.in-Err.stop c.stopped.result c.stopped.new.self s t c.requires refl c.stopped.ensures c.in-Err.ensures.err

@@ -1,0 +1,30 @@
+use Rattle.std.proofs.Common.{sym, subst}
+use Rattle.region_words.specs.Told.{OnTold}
+use Rattle.opener.specs.State.{OpenerState}
+use Rattle.opener.specs.Opener.{Tied, OnAnswer, IsAnswer}
+use Rattle.opener.specs.declared.work.Stage.TheVariants.{Release}
+use Rattle.opener.proofs.Leaving.{may_release}
+use Rattle.opener.proofs.Holds.{released_tied, last_answer}
+use Rattle.opener.proofs.Stopped.{stopped_tied}
+use Rattle.opener.proofs.opener.Opener.release.Goals as goal
+
+pub unlock-requires-clause-lawful : goal.unlock-requires-clause-lawful
+unlock-requires-clause-lawful g c = may_release c.args.self.now c.args.running (g.S.Share.state c.args.share.now) c.requires
+
+pub returns-in-Ok-clause-tied : goal.returns-in-Ok-clause-tied
+returns-in-Ok-clause-tied g c =
+    let s = g.S.Share.state c.args.share.now in
+    let t = g.S.Share.state c.unlock.new.self in
+    subst (λ (n : OpenerState). Tied n t) (sym c.done-in-Ok.ensures.1) (released_tied c.args.self.now c.args.running s t c.in-Ok.ensures.ok c.requires)
+
+pub returns-in-Ok-clause-answer : goal.returns-in-Ok-clause-answer
+returns-in-Ok-clause-answer g c =
+    let s = g.S.Share.state c.args.share.now in
+    let t = g.S.Share.state c.unlock.new.self in
+    subst (λ r. OnAnswer r (λ a. OnTold t.told (λ h. IsAnswer a h.start h.past))) (sym c.done-in-Ok.ensures.0)
+    (last_answer c.args.self.now c.args.running s t c.in-Ok.ensures.ok c.changes-in-Ok.result c.requires c.changes-in-Ok.ensures)
+
+pub returns-in-Err-clause-tied : goal.returns-in-Err-clause-tied
+returns-in-Err-clause-tied g c =
+    stopped_tied c.args.self.now c.args.running Release c.in-Err.stop c.stopped.result c.stopped.new.self (g.S.Share.state c.args.share.now) (g.S.Share.state c.unlock.new.self)
+    c.requires c.stopped.ensures c.in-Err.ensures.err

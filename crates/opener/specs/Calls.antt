@@ -1,0 +1,35 @@
+-- Calls that run, and how they stop.
+use Rattle.std.specs.Prelude.{◌≡◌, None, ⊤}
+use Rattle.region_words.specs.declared.stops.ShareStop.{ShareStop}
+use Rattle.region_words.specs.declared.stops.ShareStop.TheVariants as stop
+use Rattle.change_log.specs.declared.call.Call.{Call}
+use Rattle.change_log.specs.declared.call.Call.TheVariants as call
+use Rattle.opener.specs.declared.calls.Step.{Step}
+use Rattle.opener.specs.declared.calls.Step.TheVariants as step
+use Rattle.opener.specs.declared.calls.Stop.TheVariants as why
+use Rattle.opener.specs.declared.work.Running.{Running}
+use Rattle.opener.specs.declared.work.Stage.{Stage}
+use Rattle.opener.specs.declared.work.Work.TheVariants.{Idle, Ended, Runs}
+use Rattle.opener.specs.State.{OpenerState}
+
+-- the opener keeps no image and runs no call
+abbrev pub IsGivenUp : OpenerState → OpenerState → Type 0
+IsGivenUp old new = (new.who ≡ old.who) × (new.holds ≡ old.holds) × (new.image ≡ None) × (new.work ≡ Idle)
+
+-- the opener after a call on its share that was not answered
+abbrev pub AfterStop : ShareStop → OpenerState → Running → Stage → Step → OpenerState → Type 0
+AfterStop stop.Turn old running stage result new = (result ≡ step.Again) × (new ≡ record old { work = Runs running stage })
+AfterStop stop.Failed old running stage result new =
+    (result ≡ step.Stopped why.Fault) × (new.who ≡ old.who) × (new.holds ≡ 0) × (new.image ≡ None) × (new.work ≡ Ended)
+AfterStop stop.Memory old running stage result new = (result ≡ step.Stopped why.Memory) × IsGivenUp old new
+AfterStop stop.JournalFull old running stage result new = (result ≡ step.Stopped why.JournalFull) × IsGivenUp old new
+
+-- a call that finds a map or a lock, and changes nothing
+abbrev pub IsRead : Call → Type 0
+IsRead (call.Get key) = ⊤
+IsRead call.Keys = ⊤
+IsRead call.Count = ⊤
+IsRead call.Sync = ⊤
+IsRead call.Hold = ⊤
+IsRead call.Release = ⊤
+IsRead _ = ⊥

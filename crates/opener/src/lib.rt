@@ -1,0 +1,14 @@
+//! An opener of a shared region: its calls, made step by step over any share.
+#![tactic(auto)]
+
+mod calls;
+mod opener;
+mod reads;
+mod refusals;
+mod reply;
+#[cfg(test)]
+mod tests;
+mod work;
+
+pub use calls::{NotBegun, Refused, Step, Stop};
+pub use opener::Opener;

@@ -1,0 +1,154 @@
+// An opener: what it keeps between its calls, and its steps.
+ghost use Rattle.std.specs.Prelude.{◌≡◌, ◌≤◌, None, Some, IfOk, IfErr, OnErr, OnOk};
+ghost use Rattle.region_words.specs.Told.{OnTold, changes_told as changes_seen};
+ghost use Rattle.opener.specs.Calls.{IsRead};
+ghost use Rattle.opener.specs.Begins.{Begins, IsFirst, begun_at, refusal};
+ghost use Rattle.opener.specs.Opener.{Tied, running_as, HasCause, IsAnswer, OnAnswer, MakesOne};
+
+use crate::calls::{NotBegun, Refused, Step};
+use crate::refusals::refusal;
+use crate::work::{Running, Stage, Work};
+use change_log::Call;
+use handlers::Handler;
+use loader::Image;
+use region_words::Share;
+use std::alloc::Global;
+use std::marker::Model;
+use std::mem;
+
+/// One opener of a shared region. It owns its handler, keeps the image that it loaded last, and makes its calls in steps
+/// of at most one call on its share.
+#[derive(Drop)]
+pub struct Opener {
+    pub(crate) alloc: Global,
+    pub(crate) who: u32,
+    pub(crate) handler: Option<Box<dyn Handler + Send>>,
+    pub(crate) image: Option<Image>,
+    pub(crate) holds: u32,
+    pub(crate) work: Work,
+}
+
+impl Model for Opener {
+    ghost use Rattle.std.specs.Coded.{codes};
+    ghost use Rattle.expiring_map.specs.contracts.map.ExpiringMap as map;
+    ghost use Rattle.opener.specs.State.{OpenerState};
+
+    ghost Value = { OpenerState };
+
+    ghost coded = { Prim.hlevel (codes, map.the_row.coded) };
+
+    ghost view = { λ o. record { who = o.who; image = o.image; holds = o.holds; work = o.work } };
+}
+
+impl Opener {
+    /// An opener of this number, which keeps no image and runs no call.
+    pub fn new(alloc: Global, who: u32, handler: Box<dyn Handler + Send>) -> Opener
+        requires least { 1 ≤ who }
+        requires most { who ≤ 64 }
+        ensures { result ≡ record { who = who; image = None; holds = 0; work = Work.Idle } }
+    {
+        Opener {
+            alloc,
+            who,
+            handler: Some(handler),
+            image: None,
+            holds: 0,
+            work: Work::Idle,
+        }
+    }
+
+    /// Begins a call at a moment, in seconds. So far the calls are those that change nothing: `Get`, `Keys`, `Count`, `Sync`,
+    /// `Hold` and `Release`. Where it is refused, nothing changes.
+    pub fn begin<S: Share>(&mut self, share: &S, call: Call, now: u32) -> Result<(), NotBegun>
+        requires tied { Tied self.old (S.state share.now) }
+        requires built { IsRead call }
+        ensures tied { Tied self.new (S.state share.now) }
+        ensures ok { OnOk result (Begins call now (changes_seen (S.state share.now).told) self.old self.new) }
+        ensures first { OnOk result (refusal self.old call ≡ None) }
+        ensures refused { IfErr result (λ n. (refusal self.old call ≡ Some n.why) × (n.call ≡ call)) }
+        ensures same { OnErr result (self.new ≡ self.old) }
+    {
+        if let Some(why) = self.refusal(&call) {
+            return Err(NotBegun { why, call });
+        }
+        let stage = self.first_stage(&call);
+        let begun = share.changes();
+        self.run(begun_at(call, now, begun), stage);
+        Ok(())
+    }
+
+    fn run(&mut self, running: Running, stage: Stage)
+        ensures { self.new ≡ record self.old { work = Work.Runs running stage } }
+    {
+        self.work = Work::Runs { running, stage };
+    }
+
+    fn refusal(&self, call: &Call) -> Option<Refused>
+        ensures { result ≡ refusal self.now call.now }
+    {
+        match self.work {
+            Work::Idle => refusal(call, self.holds),
+            Work::Ended => Some(Refused::Ended),
+            Work::Runs { .. } => Some(Refused::CallRunning),
+        }
+    }
+
+    fn first_stage(&self, call: &Call) -> Stage
+        ensures { IsFirst self.now.image self.now.holds call.now result }
+    {
+        match call {
+            Call::Hold => Stage::Hold,
+            Call::Release => Stage::Release,
+            _ if self.image.is_some() => Stage::PeekChecksum,
+            _ => self.reading(),
+        }
+    }
+
+    /// The next step of the call that runs, with at most one call on the share.
+    pub fn step<S: Share>(&mut self, share: &mut S) -> Step
+        requires { Tied self.old (S.state share.old) }
+        ensures tied { Tied self.new (S.state share.new) }
+        ensures makes { MakesOne (S.state share.old) (S.state share.new) }
+        ensures cause { HasCause result (S.state share.old) (S.state share.new) }
+        ensures answer { OnAnswer result (λ a. OnTold (S.state share.new).told (λ h. IsAnswer a h.start h.past)) }
+    {
+        match mem::replace(&mut self.work, Work::Idle) {
+            Work::Idle => Step::Idle,
+            Work::Ended => {
+                self.work = Work::Ended;
+                Step::Idle
+            }
+            Work::Runs { running, stage } => self.go(share, running, stage),
+        }
+    }
+
+    fn go<S: Share>(&mut self, share: &mut S, running: Running, stage: Stage) -> Step
+        requires { Tied (running_as self.old running stage) (S.state share.old) }
+        ensures tied { Tied self.new (S.state share.new) }
+        ensures makes { MakesOne (S.state share.old) (S.state share.new) }
+        ensures cause { HasCause result (S.state share.old) (S.state share.new) }
+        ensures answer { OnAnswer result (λ a. OnTold (S.state share.new).told (λ h. IsAnswer a h.start h.past)) }
+    {
+        match stage {
+            Stage::PeekChecksum => self.peek_checksum(share, running),
+            Stage::PeekSequence(peek) => self.peek_sequence(share, running, peek),
+            Stage::LockShared => self.lock_shared(share, running),
+            Stage::Load(loading) => self.load(share, running, loading),
+            Stage::Unlock(end) => self.unlock(share, running, end),
+            Stage::Hold => self.hold(share, running),
+            Stage::Release => self.release(share, running),
+        }
+    }
+}
+
+fn begun_at(call: Call, now: u32, begun: u32) -> Running
+    ensures { result ≡ begun_at call now begun }
+{
+    Running {
+        call,
+        now,
+        begun,
+        loads: 0,
+        locks: 0,
+    }
+}

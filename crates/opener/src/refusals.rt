@@ -1,0 +1,50 @@
+// Which calls are begun.
+ghost use Rattle.std.specs.Prelude.{◌≡◌};
+ghost use Rattle.opener.specs.Begins.{call_refusal, key_refusal, pair_refusal};
+
+use crate::calls::Refused;
+use change_log::Call;
+
+/// The greatest number of holds that stand at once.
+pub const MOST_HOLDS: u32 = 1000;
+
+const LONGEST: usize = 1 << 27;
+
+/// Why a call is refused for what it is asked, beside so many holds.
+pub fn refusal(call: &Call, holds: u32) -> Option<Refused>
+    ensures { result ≡ call_refusal call.now holds }
+{
+    match call {
+        Call::Get { key } | Call::Remove { key } => key_refusal(key.as_slice()),
+        Call::Put { key, value, .. } => pair_refusal(key.as_slice(), value.as_slice()),
+        Call::Release if holds == 0 => Some(Refused::NotHeld),
+        Call::Hold if holds >= MOST_HOLDS => Some(Refused::TooDeep),
+        _ => None,
+    }
+}
+
+fn key_refusal(key: &[u8]) -> Option<Refused>
+    ensures { result ≡ key_refusal key.now }
+{
+    if key.is_empty() {
+        Some(Refused::EmptyKey)
+    } else if key.len() > LONGEST {
+        Some(Refused::TooLong)
+    } else {
+        None
+    }
+}
+
+fn pair_refusal(key: &[u8], value: &[u8]) -> Option<Refused>
+    ensures { result ≡ pair_refusal key.now value.now }
+{
+    if key.is_empty() {
+        Some(Refused::EmptyKey)
+    } else if value.is_empty() {
+        Some(Refused::EmptyValue)
+    } else if key.len() > LONGEST || value.len() > LONGEST {
+        Some(Refused::TooLong)
+    } else {
+        None
+    }
+}

@@ -1,0 +1,229 @@
+// Calls of an opener over a region in memory, step by step.
+ghost use Rattle.std.specs.Prelude.{◌≡◌, false, None, IfOk, IfSome};
+ghost use Rattle.region_words.specs.Local.{seat_state};
+ghost use Rattle.opener.specs.Calls.{IsRead};
+ghost use Rattle.opener.specs.Opener.{Tied};
+
+use crate::{Opener, Refused, Step, Stop};
+use change_log::{Answer, Call, Reply};
+use expiring_map::{Bytes, Memory};
+use handlers::{Handler, Steady, Strategy};
+use meta_record::Shown;
+use region_words::{LocalRegion, LocalSeat, Share};
+use std::alloc::Global;
+use std::test::Fail;
+
+// A store with the pair k, abc: its data and its meta file. The checksums are those of zlib.
+const BODY: [u8; 15] = *b"\x0b\0\0\0\xff\xff\xff\x07\x01k\x04\x03abc";
+
+const META: [u8; 40] =
+    *b"\xd3\x95\x65\x3a\x03\0\0\0\x01\0\0\0\0\0\0\0\0\0\0\0\0\0\0\0\0\0\0\0\x0b\0\0\0\x04\0\0\0\xd1\x85\x99\x4c";
+
+// A seat at a region of these files. Its calls of the listed numbers fail.
+fn seat_at(alloc: Global, body: &[u8], meta: &[u8], fails: &[u64]) -> Option<LocalSeat>
+    ensures alive { IfSome result (λ s. (seat_state s).ended ≡ false) }
+    ensures free { IfSome result (λ s. (seat_state s).holds ≡ None) }
+{
+    let body = body.to_vec(alloc).ok()?;
+    let meta = meta.to_vec(alloc).ok()?;
+    let mut region = LocalRegion::new(alloc, body, meta).ok()?;
+    region.fail_at(fails.to_vec(alloc).ok()?);
+    region.admit(1).ok()?;
+    Some(region.seat(1))
+}
+
+// An opener that has made no call.
+fn opener_of<S: Share>(alloc: Global, share: &S) -> Option<Opener>
+    requires alive { (S.state share.now).ended ≡ false }
+    requires free { (S.state share.now).holds ≡ None }
+    ensures { IfSome result (λ o. Tied o (S.state share.now)) }
+{
+    let handler: Box<dyn Handler + Send> = Box::new(
+        alloc,
+        Steady::new(alloc, Strategy::Leave),
+    ).ok()?;
+    Some(Opener::new(alloc, share.who(), handler))
+}
+
+// The steps of the call that runs, to its end or to so many.
+fn finish<S: Share>(opener: &mut Opener, share: &mut S, most: u32) -> Step
+    requires { Tied opener.old (S.state share.old) }
+    ensures { Tied opener.new (S.state share.new) }
+{
+    for _ in 0..most {
+        let step = opener.step(share);
+        match step {
+            Step::Going => {}
+            _ => return step,
+        }
+    }
+    Step::Going
+}
+
+// A whole call.
+fn ask<S: Share>(opener: &mut Opener, share: &mut S, call: Call, now: u32) -> Option<Step>
+    requires tied { Tied opener.old (S.state share.old) }
+    requires built { IsRead call }
+    ensures { Tied opener.new (S.state share.new) }
+{
+    match opener.begin(share, call, now) {
+        Ok(()) => Some(finish(opener, share, 1000)),
+        Err(_) => None,
+    }
+}
+
+// A new opener's first call, over a seat at these files.
+fn first_of(
+    alloc: Global,
+    body: &[u8],
+    meta: &[u8],
+    fails: &[u64],
+    call: Call,
+) -> Option<(Step, Opener)>
+    requires { IsRead call }
+{
+    let mut seat = seat_at(alloc, body, meta, fails)?;
+    let mut opener = opener_of(alloc, &seat)?;
+    let step = ask(&mut opener, &mut seat, call, 100)?;
+    Some((step, opener))
+}
+
+// The changes before the answer, and the loads and locks that it took.
+fn counts(step: &Option<Step>) -> Option<(u32, u32, u32)> {
+    match step {
+        Some(Step::Answered(answer)) => Some((answer.place, answer.loads, answer.locks)),
+        _ => None,
+    }
+}
+
+fn is_value(step: &Option<Step>, want: &[u8]) -> bool {
+    match step {
+        Some(Step::Answered(answer)) => match &answer.reply {
+            Reply::Value(bytes) => bytes.as_slice() == want,
+            _ => false,
+        },
+        _ => false,
+    }
+}
+
+fn is_count(step: &Option<Step>, want: usize) -> bool {
+    match step {
+        Some(Step::Answered(answer)) => match &answer.reply {
+            Reply::Count(count) => *count == want,
+            _ => false,
+        },
+        _ => false,
+    }
+}
+
+fn is_keys(step: &Option<Step>, want: &[u8]) -> bool {
+    match step {
+        Some(Step::Answered(answer)) => match &answer.reply {
+            Reply::Keys(keys) => match keys.as_slice() {
+                [key] => key.as_slice() == want,
+                _ => false,
+            },
+            _ => false,
+        },
+        _ => false,
+    }
+}
+
+fn stop_of(step: &Option<(Step, Opener)>) -> Option<Stop> {
+    match step {
+        Some((Step::Stopped(stop), _)) => Some(*stop),
+        _ => None,
+    }
+}
+
+fn get(alloc: Global) -> Result<Call, Memory>
+    ensures { IfOk result IsRead }
+{
+    Ok(Call::Get {
+        key: Bytes::copy_of(alloc, b"k")?,
+    })
+}
+
+#[test]
+fn a_second_read_looks_at_two_words_and_takes_no_lock(rt: HostRuntime) -> Result<(), Fail> {
+    let alloc = rt.alloc();
+    let mut seat = seat_at(alloc, &BODY, &META, &[]).expect(&rt, "ample memory");
+    let mut opener = opener_of(alloc, &seat).expect(&rt, "ample memory");
+    let first = ask(&mut opener, &mut seat, get(alloc)?, 100);
+    assert_eq!(rt; is_value(&first, b"\x03abc"), true);
+    assert_eq!(rt; counts(&first), Some((0, 13, 1)));
+    let second = ask(&mut opener, &mut seat, get(alloc)?, 100);
+    assert_eq!(rt; is_value(&second, b"\x03abc"), true);
+    assert_eq!(rt; counts(&second), Some((0, 2, 0)));
+    Ok(())
+}
+
+#[test]
+fn under_a_hold_nothing_is_locked_again(rt: HostRuntime) {
+    let alloc = rt.alloc();
+    let mut seat = seat_at(alloc, &BODY, &META, &[]).expect(&rt, "ample memory");
+    let mut opener = opener_of(alloc, &seat).expect(&rt, "ample memory");
+    let held = ask(&mut opener, &mut seat, Call::Hold, 100);
+    assert_eq!(rt; counts(&held), Some((0, 0, 1)));
+    let again = ask(&mut opener, &mut seat, Call::Hold, 100);
+    assert_eq!(rt; counts(&again), Some((0, 0, 0)));
+    let keys = ask(&mut opener, &mut seat, Call::Keys, 100);
+    assert_eq!(rt; is_keys(&keys, b"k"), true);
+    assert_eq!(rt; counts(&keys), Some((0, 13, 0)));
+    let count = ask(&mut opener, &mut seat, Call::Count, 100);
+    assert_eq!(rt; is_count(&count, 1), true);
+    assert_eq!(rt; counts(&count), Some((0, 2, 0)));
+    let first = ask(&mut opener, &mut seat, Call::Release, 100);
+    assert_eq!(rt; counts(&first), Some((0, 0, 0)));
+    let last = ask(&mut opener, &mut seat, Call::Release, 100);
+    assert_eq!(rt; counts(&last), Some((0, 0, 0)));
+    let none = opener.begin(&seat, Call::Release, 100);
+    assert_eq!(rt;
+        none.err().map(|refused| refused.why),
+        Some(Refused::NotHeld)
+    );
+    assert_eq!(rt; seat.region().journal().len(), 2);
+}
+
+#[test]
+fn each_call_on_the_share_that_fails_ends_the_opener(rt: HostRuntime) -> Result<(), Fail> {
+    let alloc = rt.alloc();
+    for fails in 0..15u64 {
+        let step = first_of(alloc, &BODY, &META, &[fails], get(alloc)?);
+        assert_eq!(rt; stop_of(&step), Some(Stop::Fault), "call {fails}");
+    }
+    let step = first_of(alloc, &BODY, &META, &[15], get(alloc)?);
+    assert_eq!(rt; stop_of(&step), None);
+    Ok(())
+}
+
+#[test]
+fn a_region_that_shows_no_whole_image_stops_the_call(rt: HostRuntime) {
+    let alloc = rt.alloc();
+    let mut meta = META;
+    meta[28] = 4;
+    let step = first_of(alloc, &BODY, &meta, &[], Call::Sync);
+    assert_eq!(rt; stop_of(&step), Some(Stop::NotWhole(Shown::Header(11))));
+    meta[4] = 9;
+    let step = first_of(alloc, &BODY, &meta, &[], Call::Sync);
+    assert_eq!(rt; stop_of(&step), Some(Stop::Version(9)));
+}
+
+#[test]
+fn a_call_with_an_empty_key_is_not_begun(rt: HostRuntime) {
+    let alloc = rt.alloc();
+    let seat = seat_at(alloc, &BODY, &META, &[]).expect(&rt, "ample memory");
+    let mut opener = opener_of(alloc, &seat).expect(&rt, "ample memory");
+    let key = Bytes::of_vec(Vec::new(alloc));
+    let refused = opener.begin(&seat, Call::Get { key }, 100);
+    assert_eq!(rt;
+        refused.err().map(|refused| refused.why),
+        Some(Refused::EmptyKey)
+    );
+    assert_eq!(rt; opener.begin(&seat, Call::Count, 100).is_ok(), true);
+    let second = opener.begin(&seat, Call::Count, 100);
+    assert_eq!(rt;
+        second.err().map(|refused| refused.why),
+        Some(Refused::CallRunning)
+    );
+}
