@@ -37,6 +37,7 @@ use Rattle.opener.specs.declared.work.Stage.TheVariants.{PeekChecksum, PeekSeque
 use Rattle.opener.specs.declared.work.Work.{Work}
 use Rattle.opener.specs.declared.work.Work.TheVariants.{Idle, Ended, Runs}
 use Rattle.opener.specs.State.{OpenerState}
+use Rattle.opener.specs.Continues.{SameCall}
 
 -- the same opener, at this stage of a call
 abbrev pub running_as : OpenerState → Running → Stage → OpenerState
@@ -182,6 +183,38 @@ pub record IsAnswer (a : Answer) (start : Region) (past : List Event) : Type 0 w
 abbrev pub OnAnswer : Step → (Answer → Type 0) → Type 0
 OnAnswer (step.Answered a) P = P a
 OnAnswer _ P = ⊤
+
+-- an answer of the call that ran
+pub record IsAnswerOf (a : Answer) (who : ℕ) (running : Running) : Type 0 where
+  pub by : a.who ≡ who
+  pub call_is : a.call ≡ running.call
+  pub moment : a.now ≡ running.now
+  pub begun : a.begun ≡ running.begun
+
+-- the call runs on
+abbrev pub RunsOn : Running → Work → Type 0
+RunsOn running Idle = ⊥
+RunsOn running Ended = ⊥
+RunsOn running (Runs next stage) = SameCall running next
+
+-- what is answered is the call that ran, and until then it runs on
+abbrev pub KeepsCall : ℕ → Running → Step → Work → Type 0
+KeepsCall who running step.Idle new = ⊥
+KeepsCall who running step.Going new = RunsOn running new
+KeepsCall who running step.Again new = RunsOn running new
+KeepsCall who running (step.Blocked holder) new = RunsOn running new
+KeepsCall who running (step.Answered a) new = IsAnswerOf a who running × (new ≡ Idle)
+KeepsCall who running (step.Stopped Fault) new = new ≡ Ended
+KeepsCall who running (step.Stopped why) new = new ≡ Idle
+
+-- without a call that runs, nothing is made
+abbrev pub KeepsWork : OpenerState → Step → OpenerState → Type 0
+KeepsWork old result new = KeepsWorkOf old.work old.who result new.work
+  where
+    KeepsWorkOf : Work → ℕ → Step → Work → Type 0
+    KeepsWorkOf Idle who result new = (result ≡ step.Idle) × (new ≡ Idle)
+    KeepsWorkOf Ended who result new = (result ≡ step.Idle) × (new ≡ Ended)
+    KeepsWorkOf (Runs running stage) who result new = KeepsCall who running result new
 
 -- at most one call was made on the share, and it made at most one event
 abbrev pub MakesOne : ShareState → ShareState → Type 0

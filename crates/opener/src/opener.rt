@@ -3,7 +3,7 @@ ghost use Rattle.std.specs.Prelude.{◌≡◌, ◌≤◌, None, Some, IfOk, IfEr
 ghost use Rattle.region_words.specs.Told.{OnTold, changes_told as changes_seen};
 ghost use Rattle.opener.specs.Calls.{IsRead};
 ghost use Rattle.opener.specs.Begins.{Begins, IsFirst, begun_at, refusal};
-ghost use Rattle.opener.specs.Opener.{Tied, running_as, HasCause, IsAnswer, OnAnswer, MakesOne};
+ghost use Rattle.opener.specs.Opener.{Tied, running_as, HasCause, IsAnswer, KeepsCall, KeepsWork, OnAnswer, MakesOne};
 
 use crate::calls::{NotBegun, Refused, Step};
 use crate::refusals::refusal;
@@ -109,6 +109,7 @@ impl Opener {
         requires { Tied self.old (S.state share.old) }
         ensures tied { Tied self.new (S.state share.new) }
         ensures makes { MakesOne (S.state share.old) (S.state share.new) }
+        ensures call { KeepsWork self.old result self.new }
         ensures cause { HasCause result (S.state share.old) (S.state share.new) }
         ensures answer { OnAnswer result (λ a. OnTold (S.state share.new).told (λ h. IsAnswer a h.start h.past)) }
     {
@@ -126,6 +127,7 @@ impl Opener {
         requires { Tied (running_as self.old running stage) (S.state share.old) }
         ensures tied { Tied self.new (S.state share.new) }
         ensures makes { MakesOne (S.state share.old) (S.state share.new) }
+        ensures call { KeepsCall self.old.who running result self.new.work }
         ensures cause { HasCause result (S.state share.old) (S.state share.new) }
         ensures answer { OnAnswer result (λ a. OnTold (S.state share.new).told (λ h. IsAnswer a h.start h.past)) }
     {

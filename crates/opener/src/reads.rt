@@ -2,7 +2,7 @@
 ghost use Rattle.std.specs.Prelude.{◌≡◌, ◌<◌, ◌≤◌, IfOk, OnOk};
 ghost use Rattle.region_words.specs.Told.{OnTold};
 ghost use Rattle.opener.specs.Ends.{Replies, answer_of, stop_of};
-ghost use Rattle.opener.specs.Opener.{Tied, running_as, HasCause, IsAnswer, OnAnswer, MakesOne};
+ghost use Rattle.opener.specs.Opener.{Tied, running_as, HasCause, IsAnswer, KeepsCall, OnAnswer, MakesOne};
 
 use crate::calls::{Step, Stop};
 use crate::opener::Opener;
@@ -20,6 +20,7 @@ impl Opener {
         requires { Tied (running_as self.old running Stage.PeekChecksum) (S.state share.old) }
         ensures tied { Tied self.new (S.state share.new) }
         ensures makes { MakesOne (S.state share.old) (S.state share.new) }
+        ensures call { KeepsCall self.old.who running result self.new.work }
         ensures cause { HasCause result (S.state share.old) (S.state share.new) }
         ensures answer { OnAnswer result (λ a. OnTold (S.state share.new).told (λ h. IsAnswer a h.start h.past)) }
     {
@@ -38,6 +39,7 @@ impl Opener {
         requires { Tied (running_as self.old running (Stage.PeekSequence peek)) (S.state share.old) }
         ensures tied { Tied self.new (S.state share.new) }
         ensures makes { MakesOne (S.state share.old) (S.state share.new) }
+        ensures call { KeepsCall self.old.who running result self.new.work }
         ensures cause { HasCause result (S.state share.old) (S.state share.new) }
         ensures answer { OnAnswer result (λ a. OnTold (S.state share.new).told (λ h. IsAnswer a h.start h.past)) }
     {
@@ -58,6 +60,7 @@ impl Opener {
         requires { Tied (running_as self.old running Stage.LockShared) (S.state share.old) }
         ensures tied { Tied self.new (S.state share.new) }
         ensures makes { MakesOne (S.state share.old) (S.state share.new) }
+        ensures call { KeepsCall self.old.who running result self.new.work }
         ensures cause { HasCause result (S.state share.old) (S.state share.new) }
         ensures answer { OnAnswer result (λ a. OnTold (S.state share.new).told (λ h. IsAnswer a h.start h.past)) }
     {
@@ -80,6 +83,7 @@ impl Opener {
         requires { Tied (running_as self.old running (Stage.Load loading)) (S.state share.old) }
         ensures tied { Tied self.new (S.state share.new) }
         ensures makes { MakesOne (S.state share.old) (S.state share.new) }
+        ensures call { KeepsCall self.old.who running result self.new.work }
         ensures cause { HasCause result (S.state share.old) (S.state share.new) }
         ensures answer { OnAnswer result (λ a. OnTold (S.state share.new).told (λ h. IsAnswer a h.start h.past)) }
     {
@@ -107,6 +111,7 @@ impl Opener {
         requires { Tied (running_as self.old running (Stage.Unlock end)) (S.state share.old) }
         ensures tied { Tied self.new (S.state share.new) }
         ensures makes { MakesOne (S.state share.old) (S.state share.new) }
+        ensures call { KeepsCall self.old.who running result self.new.work }
         ensures cause { HasCause result (S.state share.old) (S.state share.new) }
         ensures answer { OnAnswer result (λ a. OnTold (S.state share.new).told (λ h. IsAnswer a h.start h.past)) }
     {
@@ -120,6 +125,7 @@ impl Opener {
         requires { Tied (running_as self.old running Stage.Hold) (S.state share.old) }
         ensures tied { Tied self.new (S.state share.new) }
         ensures makes { MakesOne (S.state share.old) (S.state share.new) }
+        ensures call { KeepsCall self.old.who running result self.new.work }
         ensures cause { HasCause result (S.state share.old) (S.state share.new) }
         ensures answer { OnAnswer result (λ a. OnTold (S.state share.new).told (λ h. IsAnswer a h.start h.past)) }
     {
@@ -138,6 +144,7 @@ impl Opener {
         requires { Tied (running_as self.old running Stage.Release) (S.state share.old) }
         ensures tied { Tied self.new (S.state share.new) }
         ensures makes { MakesOne (S.state share.old) (S.state share.new) }
+        ensures call { KeepsCall self.old.who running result self.new.work }
         ensures cause { HasCause result (S.state share.old) (S.state share.new) }
         ensures answer { OnAnswer result (λ a. OnTold (S.state share.new).told (λ h. IsAnswer a h.start h.past)) }
     {
