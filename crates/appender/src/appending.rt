@@ -89,9 +89,8 @@ impl Appending {
         self.maker.step(share)
     }
 
-    /// What is known of the image once all is stored.
+    /// What is known of the image once all is stored, whatever is still to come.
     pub fn standing(&self) -> Standing
-        requires { self.now.events ≡ [] }
         ensures { result ≡ self.now.standing }
     {
         self.maker.standing()

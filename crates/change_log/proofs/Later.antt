@@ -1,33 +1,28 @@
 -- What is legal for one caller stays so while others make changes.
-use Rattle.std.proofs.Common.{◌≡◌, ◌≢◌, ℕ, zero, suc, ◌+◌, Bool, true, List, [], ◌∷◌, ◌++◌, refl, sym, ap, ◌∙◌, ◌<◌, ◌≤◌, length, inl, inr, arith, subst, length-append}
+use Rattle.std.proofs.Common.{◌≡◌, ℕ, zero, suc, ◌+◌, Bool, true, List, [], ◌∷◌, ◌++◌, refl, sym, ap, ◌∙◌, ◌<◌, ◌≤◌, length, inl, inr, arith, subst, length-append}
 use Rattle.std.specs.Prelude.{Option, Some, None, IfSome, slice_get, slice_index_or, take}
-use Rattle.std.specs.List.{AllByRecursion}
+use Rattle.std.proofs.lemmas.Option.{slice_get_within, get_or_from_slice_get}
 use Rattle.expiring_map.specs.Map.{Map}
 use Rattle.change_log.specs.Acts.{replay, act_of, is_of_call}
 use Rattle.change_log.specs.History.{IsPlaced, IsOwned, IsFollowed, MakesNone, reply_in}
 use Rattle.change_log.specs.EachCaller.{LegalFor}
+use Rattle.change_log.specs.Settled.{NoneBy}
 use Rattle.change_log.specs.declared.change.Act.{Act}
 use Rattle.change_log.specs.declared.change.Change.{Change}
 use Rattle.change_log.specs.declared.call.Answer.{Answer}
+use Rattle.change_log.proofs.Fronts.{front_at, either_at}
 
--- none of these changes is this opener's
-abbrev pub NoneBy : ℕ → List Change → Type 0
-NoneBy who changes = AllByRecursion (λ c. c.maker ≢ who) changes
+-- where none of the changes is this caller's, none at any place is
+pub nobody : (who : ℕ) (changes : List Change) (i : ℕ) (c : Change) → NoneBy who changes → slice_get changes i ≡ Some c → c.maker ≡ who → ⊥
+nobody who changes i c none at m =
+    none i c (slice_get_within changes i c at) (ap (λ (x : Change). x.maker) (get_or_from_slice_get changes i c c at) ∙ m)
 
-pub front_at : (xs ys : List Change) (i : ℕ) (c : Change) → slice_get xs i ≡ Some c → slice_get (xs ++ ys) i ≡ Some c
-front_at [] ys i c e = absurd cc
-front_at (x ∷ xs) ys zero c e = e
-front_at (x ∷ xs) ys (suc i) c e = front_at xs ys i c e
-
-nobody : (who : ℕ) (ys : List Change) (i : ℕ) (c : Change) → NoneBy who ys → slice_get ys i ≡ Some c → c.maker ≡ who → ⊥
-nobody who [] i c n e m = cc
-nobody who (y ∷ ys) zero c n e m = n.0 (ap (λ o. o) cc)
-nobody who (y ∷ ys) (suc i) c n e m = nobody who ys i c n.1 e m
-
-own_at : (who : ℕ) (xs ys : List Change) (i : ℕ) (c : Change) → NoneBy who ys → slice_get (xs ++ ys) i ≡ Some c → c.maker ≡ who → slice_get xs i ≡ Some c
-own_at who [] ys i c n e m = absurd (nobody who ys i c n e m)
-own_at who (x ∷ xs) ys zero c n e m = e
-own_at who (x ∷ xs) ys (suc i) c n e m = own_at who xs ys i c n e m
+-- a change of this caller stood there before those of others
+pub own_at : (who : ℕ) (changes more : List Change) (i : ℕ) (c : Change) → NoneBy who more → slice_get (changes ++ more) i ≡ Some c → c.maker ≡ who → slice_get changes i ≡ Some c
+own_at who changes more i c none at m = elim (either_at changes more i c at) [
+  | inl early ↦ early
+  | inr late ↦ absurd (nobody who more late.0 c none late.2 m)
+]
 
 pub take_front : (xs ys : List Change) (k : ℕ) → k ≤ length xs → take k (xs ++ ys) ≡ take k xs
 take_front xs ys zero h = refl

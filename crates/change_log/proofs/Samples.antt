@@ -1,5 +1,5 @@
 -- Two openers, of which one writes the value of the other anew: their four answers are one legal history.
-use Rattle.std.proofs.Common.{◌≡◌, ℕ, List, [], ◌∷◌, refl, lit<, lit≤, ◌≤◌, inl, arith, zero, suc}
+use Rattle.std.proofs.Common.{◌≡◌, ◌≢◌, ℕ, List, [], ◌∷◌, refl, lit<, lit≤, ◌≤◌, inl, inr, arith, zero, suc}
 use Rattle.std.specs.Prelude.{slice_get, Some, All, AllPairs}
 use Rattle.std.specs.Cmp.Lexicographic.{nat_list_cmp_total}
 use Rattle.std.specs.FinMap as fin
@@ -15,6 +15,9 @@ use Rattle.change_log.specs.declared.call.Call.TheVariants as call
 use Rattle.change_log.specs.declared.call.Reply.TheVariants as reply
 use Rattle.change_log.specs.declared.change.Change.{Change}
 use Rattle.change_log.specs.declared.call.Answer.{Answer}
+use Rattle.change_log.specs.EachCaller.{LegalFor}
+use Rattle.change_log.specs.Settled.{IsSettled, HasMade}
+use Rattle.change_log.proofs.Settled.{settled_first, settled_by_a_write, cut_is_legal}
 
 abbrev key : List ℕ
 key = 0x6b ∷ []
@@ -99,3 +102,23 @@ none_packed (suc (suc i)) c e = absurd cc
 
 one_history : Legal begin changes answers
 one_history = record { in_order = all_in_order; placed = all_placed; made = all_made; owned = both_owned; followed = none_packed }
+
+abbrev packed : List Change
+packed = record { maker = 2; act = act.Pack 100 } ∷ record { maker = 2; act = act.Put key (0x76 ∷ []) 0 } ∷ []
+
+abbrev packer : Answer
+packer = record { who = 2; call = call.Put key (0x76 ∷ []) 0; now = 100; begun = 0; place = 1; ended = 2; reply = reply.Done; loads = 14; stores = 14; locks = 1 }
+
+packer_made : HasMade 2 begin [] packed packer
+packer_made = record { caller = refl; changes = inr (refl, refl); makes = refl; begun = lit≤ tt; place = refl; ended = refl; reply = refl }
+
+-- a caller that made room by a write-back and then put is settled
+packer_is_settled : IsSettled 2 begin packed (packer ∷ [])
+packer_is_settled =
+    settled_by_a_write 2 begin [] packed [] packer (settled_first 2 begin [] (All-nil (λ c. c.maker ≢ 2))) (All-nil (λ a. a.ended ≤ 0)) packer_made
+
+-- where it died between the two it is legal too
+cut_packer_is_legal : LegalFor 2 begin (record { maker = 2; act = act.Pack 100 } ∷ []) []
+cut_packer_is_legal =
+    cut_is_legal 2 begin [] (record { maker = 2; act = act.Pack 100 } ∷ []) [] [] packer.call 100 (settled_first 2 begin [] (All-nil (λ c. c.maker ≢ 2)))
+    (record { maker = 2; act = act.Put key (0x76 ∷ []) 0 } ∷ [], inr (refl, refl)) (All-nil (λ c. c.maker ≢ 2))

@@ -1,14 +1,18 @@
 -- What is legal for each caller is one legal history.
-use Rattle.std.proofs.Common.{◌≡◌, ℕ, ◌+◌, Bool, true, false, cond, List, [], ◌∷◌, zero, suc, refl, sym, ap, ◌≤◌, inl, inr, arith, subst}
-use Rattle.std.specs.Prelude.{All, Any, AllPairs, filter, ◌==◌, IsTrue}
+use Rattle.std.proofs.Common.{◌≡◌, ◌≢◌, ◌⊎◌, ℕ, ◌+◌, ◌<◌, Bool, true, false, cond, List, [], ◌∷◌, zero, suc, refl, sym, ap, ◌∙◌, ◌≤◌, inl, inr, arith, subst}
+use Rattle.std.specs.Prelude.{All, Any, AllPairs, filter, ◌==◌, IsTrue, slice_index_or}
 use Rattle.std.proofs.lemmas.List.Elements.{All-nil, All-cons, All-head, All-tail}
 use Rattle.std.proofs.lemmas.List.Kept.{AllPairs-cons}
+use Rattle.std.proofs.lemmas.Bool.{cases_lt}
 use Rattle.std.proofs.lemmas.Bool.Decides.{nat_tests}
 use Rattle.expiring_map.specs.Map.{Map}
-use Rattle.change_log.specs.History.{Legal, IsPlaced, IsMade, IsOwned, IsFollowed, makes_change}
+use Rattle.change_log.specs.History.{IsPlaced, IsMade, IsOwned, IsFollowed, makes_change}
 use Rattle.change_log.specs.EachCaller.{answers_of, LegalFor}
+use Rattle.change_log.specs.Settled.{NoneBy}
+use Rattle.change_log.specs.Laws.{EachIsLegal, EachOfSomeIsLegal}
 use Rattle.change_log.specs.declared.change.Change.{Change}
 use Rattle.change_log.specs.declared.call.Answer.{Answer}
+use Rattle.change_log.proofs.Settled.{settled_first, settled_is_legal}
 
 own_first : (x : Answer) (xs : List Answer) → answers_of x.who (x ∷ xs) ≡ x ∷ answers_of x.who xs
 own_first x xs = ap (λ b. cond b (x ∷ answers_of x.who xs) (answers_of x.who xs)) (same x.who)
@@ -93,8 +97,7 @@ followed_by_all changes answers i c h = λ t e. elim (h t e) [
 ]
 
 -- what is legal for each caller is one legal history
-pub Legal-from_each : (base : Map) (changes : List Change) (answers : List Answer) →
-    ((who : ℕ) → LegalFor who base changes (answers_of who answers)) → Legal base changes answers
+pub Legal-from_each : EachIsLegal
 Legal-from_each base changes answers each =
     record {
       in_order = in_order-from_each answers (λ who. (each who).in_order);
@@ -103,3 +106,29 @@ Legal-from_each base changes answers each =
       owned = λ i c at. owned_by_all changes answers i c ((each c.maker).owned i c at refl);
       followed = λ i c at. followed_by_all changes answers i c ((each c.maker).followed i c at refl);
     }
+
+-- a caller without an answer and a change is legal
+nobody_is_legal : (who : ℕ) (base : Map) (changes : List Change) (answers : List Answer) → NoneBy who changes → All (λ a. a.who ≢ who) answers →
+    LegalFor who base changes (answers_of who answers)
+nobody_is_legal who base changes answers none silent =
+    subst (LegalFor who base changes) (sym (none_of answers silent)) (settled_is_legal who base changes [] (settled_first who base changes none))
+  where
+    other : (x : Answer) → x.who ≢ who → (x.who == who) ≡ false
+    other x ne = grind (arith, ne, nat_tests)
+
+    none_of : (xs : List Answer) → All (λ a. a.who ≢ who) xs → answers_of who xs ≡ []
+    none_of [] silent = refl
+    none_of (x ∷ xs) silent =
+        ap (λ b. cond b (x ∷ answers_of who xs) (answers_of who xs)) (other x (All-head (λ a. a.who ≢ who) x xs silent))
+        ∙ none_of xs (All-tail (λ a. a.who ≢ who) x xs silent)
+
+pub each_of_some_is_legal : EachOfSomeIsLegal
+each_of_some_is_legal most base changes answers makers callers each = Legal-from_each base changes answers (λ who. one who (cases_lt who 1) (cases_lt most who))
+  where
+    outside : (who : ℕ) → ((n : ℕ) → (1 ≤ n) × (n ≤ most) → n ≢ who) → LegalFor who base changes (answers_of who answers)
+    outside who out = nobody_is_legal who base changes answers (λ k d lt. out (slice_index_or changes k d).maker (makers k d lt)) (λ k d lt. out (slice_index_or answers k d).who (callers k d lt))
+
+    one : (who : ℕ) → (who < 1) ⊎ (1 ≤ who) → (most < who) ⊎ (who ≤ most) → LegalFor who base changes (answers_of who answers)
+    one who (inl low) h = outside who (λ n r e. omega (arith, low, r.0, e))
+    one who (inr h) (inl high) = outside who (λ n r e. omega (arith, high, r.1, e))
+    one who (inr low) (inr high) = each who low high

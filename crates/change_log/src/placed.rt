@@ -5,9 +5,9 @@ ghost use Rattle.change_log.specs.Acts.{AreSound};
 ghost use Rattle.change_log.specs.History.{reply_in, IsPlaced};
 ghost use Rattle.change_log.specs.declared.call.Reply.TheVariants as replies;
 
-use crate::apply::apply;
 use crate::call::{Answer, Call, Reply};
 use crate::change::Change;
+use crate::effects::apply;
 use expiring_map::{Bytes, ExpiringMap, Memory};
 use std::alloc::Global;
 

@@ -3,3 +3,5 @@ pub mod Showing
 pub mod Fronts
 pub mod Telling
 pub mod Taken
+pub mod Written
+pub mod Finished

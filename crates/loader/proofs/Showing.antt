@@ -20,7 +20,7 @@ use Rattle.loader.specs.declared.first_words.FirstWords.{FirstWords}
 use Rattle.loader.specs.declared.candidates.Candidate.TheVariants as by
 use Rattle.loader.proofs.Answered.{record-is, standing-is}
 
-no_bytes : crc [] ≡ 0
+pub no_bytes : crc [] ≡ 0
 unfolding crc
 no_bytes = refl
 

@@ -5,7 +5,7 @@ use Rattle.meta_record.specs.declared.shown.Damage.{Damage}
 use Rattle.meta_record.specs.declared.shown.Damage.TheVariants.{Checksum, Length}
 use Rattle.meta_record.specs.declared.shown.Shown.{Shown}
 use Rattle.region_words.specs.Region.{Region, record_of, header}
-use Rattle.loader.specs.FirstWords.{size_in, record_in, header_in}
+use Rattle.loader.specs.FirstWords.{size_in, record_in, header_in, IsWritten}
 use Rattle.loader.specs.declared.first_words.FirstWords.{FirstWords}
 use Rattle.loader.specs.declared.candidates.Candidate.{Candidate}
 use Rattle.loader.specs.declared.candidates.Candidate.TheVariants as by
@@ -42,10 +42,11 @@ candidate_size by.Record f = (record_in f).size
 candidate_size by.Header f = header_in f
 candidate_size by.Last f = (record_in f).last_size
 
--- the image fits its file, and not all of its payload is loaded
+-- the image fits its file, not all of its payload is loaded, and the store isn't fresh
 pub record IsWanted (f : FirstWords) (loaded : List ℕ) (c : Candidate) : Type 0 where
   pub fits : 4 + candidate_size c f ≤ size_in f
   pub more : length loaded < candidate_size c f
+  pub written : IsWritten f
 
 -- what a comparison says of the region's image of this size
 abbrev pub Compares : Compared → Region → ℕ → ℕ → Type 0

@@ -1,5 +1,5 @@
 -- What the first ten loads answer.
-use Rattle.std.specs.Prelude.{◌≡◌, ℕ, ◌+◌, ◌*◌, ◌%◌, ◌<◌, ◌≤◌, List, [], ◌∷◌, length, take, slice_index, ◌==◌, Ok}
+use Rattle.std.specs.Prelude.{◌≡◌, ◌≢◌, ℕ, ◌+◌, ◌*◌, ◌%◌, ◌<◌, ◌≤◌, List, [], ◌∷◌, length, take, slice_index, ◌==◌, Ok}
 use Rattle.meta_record.specs.Records.{checked}
 use Rattle.kv_pairs.specs.Growth.{largest}
 use Rattle.meta_record.specs.declared.record.Record.{Record}
@@ -54,6 +54,15 @@ pub record IsDataSize (size : ℕ) : Type 0 where
   pub pages : size % 4096 ≡ 0
   pub some : 0 < size
   pub most : size ≤ largest
+
+-- if the record is accepted, something was written to the store
+abbrev pub IsWritten : FirstWords → Type 0
+IsWritten f = HasAccepted f → IsDataSize (size_in f) → (record_in f).version ≢ 0
+
+-- the sequence and the checksum are words
+pub record HasWords (s : Standing) : Type 0 where
+  pub sequence : s.sequence ≤ 0xffffffff
+  pub checksum : s.checksum ≤ 0xffffffff
 
 -- what is to be known of an image with this payload and this checksum
 abbrev pub standing_in : FirstWords → List ℕ → ℕ → Standing

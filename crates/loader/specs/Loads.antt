@@ -1,5 +1,6 @@
 -- A load of a region, under way and at its end.
-use Rattle.std.specs.Prelude.{◌≡◌, ℕ, ◌+◌, ◌/◌, ◌%◌, ◌<◌, ◌≤◌, ⊤, Bool, true, false, List, [], Ok, Err, length, take, drop, slice_index, nat_lt, if◌then◌else◌}
+use Rattle.std.specs.Prelude.{◌≡◌, ◌≢◌, ℕ, ◌+◌, ◌/◌, ◌%◌, ◌<◌, ◌≤◌, ⊤, Bool, true, false, List, [], Ok, Err, length, take, drop, slice_index, nat_lt, if◌then◌else◌}
+use Rattle.kv_pairs.specs.Fits.{FitsIn}
 use Rattle.meta_record.specs.Words.{word_at}
 use Rattle.meta_record.specs.Records.{checked}
 use Rattle.meta_record.specs.declared.record.RecordFault.{RecordFault}
@@ -8,7 +9,7 @@ use Rattle.region_words.specs.Past.{region_after}
 use Rattle.region_words.specs.Told.{OnTold}
 use Rattle.region_words.specs.Share.{ShareState, Goes, Stops, loaded}
 use Rattle.region_words.specs.Rows.{standing}
-use Rattle.loader.specs.FirstWords.{AreFirst, HasAccepted, IsDataSize, first_answers, size_in}
+use Rattle.loader.specs.FirstWords.{AreFirst, HasAccepted, HasWords, IsDataSize, first_answers, size_in}
 use Rattle.loader.specs.Candidates.{IsFront}
 use Rattle.loader.specs.Outlooks.{IsOutlookOf, IsDue}
 use Rattle.loader.specs.declared.first_words.FirstWords.{FirstWords}
@@ -69,12 +70,16 @@ pub record IsLoadOf (l : Loaded) (r : Region) : Type 0 where
   pub payload : l.payload ≡ take (length l.payload) (drop 4 r.data_bytes)
   pub whole : size_shown r ≤ length l.payload
 
--- What a load gives, whatever a share tells: the record is accepted, and the image is loaded and lies in a file of whole pages.
+-- What a load gives, whatever a share tells: the record is accepted, the image is loaded and lies in a file of whole pages,
+-- its map fits in the bytes of its payload and four more, one that isn't empty has a version, and what is known of it are words.
 pub record IsLoadedWhole (l : Loaded) : Type 0 where
   pub accepted : checked l.rec l.header ≡ Ok tt
   pub size : l.image.standing.size ≤ length l.payload
   pub within : 4 + length l.payload ≤ l.image.standing.file_size
   pub file : IsDataSize l.image.standing.file_size
+  pub map : FitsIn l.image.standing.flag l.image.map (l.image.standing.size + 4)
+  pub firm : 0 < l.image.standing.size → l.image.standing.version ≢ 0
+  pub words : HasWords l.image.standing
 
 -- what is true of every load, whatever a share tells
 pub record IsLoad (l : Load) : Type 0 where

@@ -1,12 +1,13 @@
 -- What is looked for in a region, or was found.
-use Rattle.std.specs.Prelude.{◌≡◌, ℕ, ◌≤◌, ⊤, List, length, Err}
+use Rattle.std.specs.Prelude.{◌≡◌, ℕ, ◌+◌, ◌<◌, ◌≤◌, ⊤, List, length, Err}
+use Rattle.kv_pairs.specs.Fits.{FitsIn}
 use Rattle.meta_record.specs.Records.{checked}
 use Rattle.meta_record.specs.declared.record.Record.{Record}
 use Rattle.meta_record.specs.declared.shown.Shown.{Shown}
 use Rattle.meta_record.specs.declared.shown.Shown.TheVariants.{Whole, Header, Last, Damaged}
 use Rattle.region_words.specs.Region.{Region, shown, base}
 use Rattle.region_words.specs.Rows.{standing}
-use Rattle.loader.specs.FirstWords.{record_in, header_in, size_in}
+use Rattle.loader.specs.FirstWords.{record_in, header_in, size_in, IsWritten, HasWords}
 use Rattle.loader.specs.declared.stops.LoadStop.{LoadStop}
 use Rattle.loader.specs.declared.stops.LoadStop.TheVariants as stop
 use Rattle.loader.specs.Candidates.{NoneBefore, IsWanted, turn_of}
@@ -45,10 +46,14 @@ abbrev pub GoesOnFrom : Candidate → Outlook → Type 0
 GoesOnFrom from (outlook.Wants c) = turn_of from ≤ turn_of c
 GoesOnFrom from (outlook.Found f) = ⊤
 
--- what was found is loaded, of a file of this size
+-- what was found is loaded, of a file of this size; its map fits in its bytes and four more, and where it isn't empty something was written
 pub record IsLoaded (f : FirstWords) (loaded : List ℕ) (found : Found) : Type 0 where
   pub size : found.image.standing.size ≤ length loaded
   pub file : found.image.standing.file_size ≡ size_in f
+  pub map : FitsIn found.image.standing.flag found.image.map (found.image.standing.size + 4)
+  pub version : found.image.standing.version ≡ (record_in f).version
+  pub written : 0 < found.image.standing.size → IsWritten f
+  pub words : HasWords found.image.standing
 
 -- of what is looked for there is more to load; what was found is loaded
 abbrev pub IsDue : FirstWords → List ℕ → Outlook → Type 0

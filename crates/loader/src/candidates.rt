@@ -1,7 +1,7 @@
 // Which image is shown: the candidates in their order, each looked at once its payload is loaded.
 ghost use Rattle.std.specs.Prelude.{◌≡◌, ◌<◌, ◌≤◌, ◌+◌, length, IfSome};
 ghost use Rattle.region_words.specs.Region.{Region, file_size, size_of};
-ghost use Rattle.loader.specs.FirstWords.{AreFirst};
+ghost use Rattle.loader.specs.FirstWords.{AreFirst, IsWritten};
 ghost use Rattle.loader.specs.Candidates.{IsFront, NoneBefore, IsWanted, Compares, IfWants, IfShows, Tells, damage_in, turn_of};
 
 use crate::first_words::FirstWords;
@@ -35,6 +35,7 @@ pub enum Judged {
 fn compare(file: u32, payload: &[u8], size: u32, checksum: u32) -> Compared
     ensures wants { result ≡ Compared.Unknown → (4 + size ≤ file) × (length payload.now < size) }
     ensures within { result ≡ Compared.Agrees → size ≤ length payload.now }
+    ensures empty { size ≡ 0 → checksum ≡ 0 → 4 ≤ file → result ≡ Compared.Agrees }
     ensures told { (r : Region) → file ≡ file_size r → IsFront payload.now r → Compares result r size checksum }
 {
     let end = size as usize;
@@ -54,9 +55,11 @@ fn compare(file: u32, payload: &[u8], size: u32, checksum: u32) -> Compared
 /// What the words loaded so far tell of the images from this candidate on. Those before it don't agree, and are not looked
 /// at again.
 pub fn judge(first: &FirstWords, payload: &[u8], from: Candidate) -> Judged
-    requires { first.now.made ≡ 10 }
+    requires complete { first.now.made ≡ 10 }
+    requires written { 0 < turn_of from → IsWritten first.now }
     ensures wants { IfWants result (IsWanted first.now payload.now) }
     ensures within { IfShows result (λ shown. IfSome (size_of shown) (λ size. size ≤ length payload.now)) }
+    ensures written { IfShows result (λ shown. IfSome (size_of shown) (λ size. 0 < size → IsWritten first.now)) }
     ensures onward { IfWants result (λ c. turn_of from ≤ turn_of c) }
     ensures told { (r : Region) → AreFirst first.now r → IsFront payload.now r → NoneBefore from r → Tells result r }
 {
@@ -71,6 +74,7 @@ fn from_record(first: &FirstWords, payload: &[u8]) -> Judged
     requires { first.now.made ≡ 10 }
     ensures wants { IfWants result (IsWanted first.now payload.now) }
     ensures within { IfShows result (λ shown. IfSome (size_of shown) (λ size. size ≤ length payload.now)) }
+    ensures written { IfShows result (λ shown. IfSome (size_of shown) (λ size. 0 < size → IsWritten first.now)) }
     ensures told { (r : Region) → AreFirst first.now r → IsFront payload.now r → Tells result r }
 {
     let rec = first.record();
@@ -82,7 +86,8 @@ fn from_record(first: &FirstWords, payload: &[u8]) -> Judged
 }
 
 fn from_header(first: &FirstWords, payload: &[u8]) -> Judged
-    requires { first.now.made ≡ 10 }
+    requires complete { first.now.made ≡ 10 }
+    requires written { IsWritten first.now }
     ensures wants { IfWants result (IsWanted first.now payload.now) }
     ensures within { IfShows result (λ shown. IfSome (size_of shown) (λ size. size ≤ length payload.now)) }
     ensures onward { IfWants result (λ c. turn_of Candidate.Header ≤ turn_of c) }
@@ -101,7 +106,8 @@ fn from_header(first: &FirstWords, payload: &[u8]) -> Judged
 }
 
 fn from_last(first: &FirstWords, payload: &[u8]) -> Judged
-    requires { first.now.made ≡ 10 }
+    requires complete { first.now.made ≡ 10 }
+    requires written { IsWritten first.now }
     ensures wants { IfWants result (IsWanted first.now payload.now) }
     ensures within { IfShows result (λ shown. IfSome (size_of shown) (λ size. size ≤ length payload.now)) }
     ensures onward { IfWants result (λ c. turn_of Candidate.Last ≤ turn_of c) }

@@ -4,7 +4,7 @@ ghost use Rattle.region_words.specs.Region.{Region};
 ghost use Rattle.region_words.specs.Told.{OnTold};
 ghost use Rattle.region_words.specs.Past.{region_after};
 ghost use Rattle.region_words.specs.Share.{IsSound, Goes, Stops, loaded};
-ghost use Rattle.loader.specs.FirstWords.{AreFirst, record_in, header_in, size_in, first_answers, standing_in, IsDataSize};
+ghost use Rattle.loader.specs.FirstWords.{AreFirst, record_in, header_in, size_in, first_answers, standing_in, IsDataSize, HasWords};
 ghost use Rattle.region_words.specs.Standings.{tail_of};
 
 use meta_record::{
@@ -111,7 +111,8 @@ impl FirstWords {
     /// What is to be known of an image with this payload, which has this checksum.
     pub fn standing(&self, payload: &[u8], checksum: u32) -> Standing
         requires { length payload.now ≤ u32.MAX }
-        ensures { result ≡ standing_in self.now payload.now checksum }
+        ensures value { result ≡ standing_in self.now payload.now checksum }
+        ensures words { HasWords result }
     {
         let rec = self.record();
         Standing {

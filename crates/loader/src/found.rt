@@ -1,9 +1,10 @@
 // The image that is shown, with its map.
-ghost use Rattle.std.specs.Prelude.{◌≡◌, ◌≤◌, length, [], IfOk, IfSome};
+ghost use Rattle.std.specs.Prelude.{◌≡◌, ◌<◌, ◌≤◌, length, [], IfOk, IfSome};
 ghost use Rattle.std.specs.FinMap as fin;
+ghost use Rattle.kv_pairs.specs.Growth.{largest};
 ghost use Rattle.kv_pairs.specs.Mapped.{map_in};
 ghost use Rattle.region_words.specs.Region.{Region, size_of};
-ghost use Rattle.loader.specs.FirstWords.{AreFirst, standing_in};
+ghost use Rattle.loader.specs.FirstWords.{AreFirst, HasWords, IsWritten, standing_in};
 ghost use Rattle.loader.specs.Candidates.{IsFront, ShowsSize};
 ghost use Rattle.loader.specs.Outlooks.{IsFoundIn, IsLoaded, checksum_of};
 
@@ -29,8 +30,9 @@ pub fn find(
     shown: Shown,
 ) -> Result<Found, Memory>
     requires complete { first.now.made ≡ 10 }
-    requires small { length payload.now ≤ u32.MAX }
+    requires small { length payload.now ≤ largest }
     requires within { IfSome (size_of shown) (λ size. size ≤ length payload.now) }
+    requires written { IfSome (size_of shown) (λ size. 0 < size → IsWritten first.now) }
     ensures loaded { IfOk result (IsLoaded first.now payload.now) }
     ensures told { IfOk result (λ found. (r : Region) → AreFirst first.now r → IsFront payload.now r → ShowsSize r shown → IsFoundIn found r) }
 {
@@ -51,7 +53,8 @@ pub fn find(
 
 // A damaged region shows no image.
 fn without_image(alloc: Global, first: &FirstWords, shown: Shown) -> Found
-    ensures { result ≡ record { shown = shown; image = record { standing = standing_in first.now [] 0; map = fin.empty } } }
+    ensures found { result ≡ record { shown = shown; image = record { standing = standing_in first.now [] 0; map = fin.empty } } }
+    ensures words { HasWords result.image.standing }
 {
     Found {
         shown,

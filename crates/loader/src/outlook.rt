@@ -1,8 +1,9 @@
 // What a load looks for, or has found.
 ghost use Rattle.std.specs.Prelude.{◌≡◌, ◌≤◌, ◌<◌, [], length, IfOk, IfErr, OnOk};
 ghost use Rattle.region_words.specs.Region.{Region};
-ghost use Rattle.loader.specs.FirstWords.{AreFirst, HasAccepted};
-ghost use Rattle.loader.specs.Candidates.{IsFront, NoneBefore};
+ghost use Rattle.kv_pairs.specs.Growth.{largest};
+ghost use Rattle.loader.specs.FirstWords.{AreFirst, HasAccepted, IsWritten};
+ghost use Rattle.loader.specs.Candidates.{IsFront, NoneBefore, turn_of};
 ghost use Rattle.loader.specs.Outlooks.{IsOutlookOf, IsDue, GoesOnFrom, RefusesRecord};
 
 use crate::candidates::{Candidate, Judged, judge};
@@ -45,7 +46,8 @@ pub fn look(
     from: Candidate,
 ) -> Result<Outlook, Memory>
     requires complete { first.now.made ≡ 10 }
-    requires small { length payload.now ≤ u32.MAX }
+    requires small { length payload.now ≤ largest }
+    requires written { 0 < turn_of from → IsWritten first.now }
     ensures due { IfOk result (IsDue first.now payload.now) }
     ensures onward { IfOk result (GoesOnFrom from) }
     ensures told { IfOk result (λ outlook. (r : Region) → AreFirst first.now r → IsFront payload.now r → NoneBefore from r → IsOutlookOf outlook r) }

@@ -11,7 +11,9 @@ use crate::std_sink::StdSink;
 use crate::std_source::StdSource;
 use crate::words::words;
 use expiring_map::Bytes;
+use handlers::{Handler, HandlerStock, Steady, Strategy};
 use mmkv_top::run;
+use std::alloc::AllocError;
 use std::process::ExitCode;
 
 fn main(rt: HostRuntime) -> ExitCode {
@@ -26,9 +28,24 @@ fn main(rt: HostRuntime) -> ExitCode {
     let Ok(directory) = Bytes::copy_of(rt.alloc(), directory) else {
         return ExitCode::from(8);
     };
-    let mut shelf = DirShelf::new(&rt, directory);
-    let mut input = StdSource::new(&rt);
-    let mut out = StdSink::new(&rt);
-    let status = run(rt.alloc(), &words, &mut shelf, &mut input, &mut out);
-    ExitCode::from(status.0)
+    match status_of(&rt, &words, directory) {
+        Ok(status) => ExitCode::from(status),
+        Err(_) => ExitCode::from(8),
+    }
+}
+
+// The status of a command over a directory. A run has one opener, so a handler of each strategy will do.
+fn status_of(rt: &HostRuntime, words: &[Bytes], directory: Bytes) -> Result<u8, AllocError> {
+    let alloc = rt.alloc();
+    let mut discard: Vec<Box<dyn Handler + Send>> = Vec::new(alloc);
+    discard.push(Box::new(alloc, Steady::new(alloc, Strategy::Discard))?)?;
+    let mut recover: Vec<Box<dyn Handler + Send>> = Vec::new(alloc);
+    recover.push(Box::new(alloc, Steady::new(alloc, Strategy::Recover))?)?;
+    let mut leave: Vec<Box<dyn Handler + Send>> = Vec::new(alloc);
+    leave.push(Box::new(alloc, Steady::new(alloc, Strategy::Leave))?)?;
+    let stock = HandlerStock::new(discard, recover, leave);
+    let mut shelf = DirShelf::new(rt, directory);
+    let mut input = StdSource::new(rt);
+    let mut out = StdSink::new(rt);
+    Ok(run(alloc, words, &mut shelf, &mut input, &mut out, stock).0)
 }

@@ -1,58 +1,50 @@
 -- What a play ends with follows from the lines that were taken.
-use Rattle.std.proofs.Common.{◌≡◌, ℕ, ◌+◌, Bool, true, false, List, [], ◌∷◌, ◌++◌, refl, sym, ◌∙◌, inl, inr, subst, append-nil}
-use Rattle.std.specs.Prelude.{◌⊎◌, flat_map, MatchBool, codes, decimal, Option, Result, Ok, Err, ◌==◌}
+use Rattle.std.proofs.Common.{◌≡◌, ℕ, Bool, true, false, List, [], ◌∷◌, ◌++◌, refl, sym, ap, ◌∙◌, inl, inr, subst, append-nil, append_assoc}
+use Rattle.std.specs.Prelude.{IsOk, codes, decimal, Option, Result, Ok, Err}
 use Rattle.meta_record.specs.declared.record.RecordFault.{RecordFault}
 use Rattle.meta_record.specs.declared.record.RecordFault.TheVariants.{Version, Flags}
+use Rattle.meta_record.specs.declared.shown.Shown.{Shown}
+use Rattle.meta_record.specs.declared.shown.Shown.TheVariants.{Whole, Header, Last, Damaged}
 use Rattle.meta_record.specs.Records.{checked}
-use Rattle.region_words.specs.Region.{Region, record_of, header}
-use Rattle.script_lang.specs.Texts.{line, outcome_line, changes_text}
+use Rattle.region_words.specs.Region.{Region, IsAccepted, record_of, header, shown, if_accepted, shown_if_accepted}
+use Rattle.region_words.specs.Past.{changes_of, region_after}
+use Rattle.script_lang.specs.Texts.{line, run_text}
 use Rattle.mmkv_top.specs.declared.ending.Ending.{Ending}
-use Rattle.mmkv_top.specs.declared.player.Player.{Player}
-use Rattle.mmkv_top.specs.declared.lines.Taken.{Taken}
+use Rattle.mmkv_top.specs.declared.halt.Halt.{Halt}
+use Rattle.mmkv_top.specs.declared.halt.Halt.TheVariants as halt
 use Rattle.mmkv_top.specs.Ending.{ending}
-use Rattle.mmkv_top.specs.Play.{at_start, Plays, IsWithin, IsPlayed, IsScriptRefused, PlaysInput, IsFirstRefused, answers_in}
-use Rattle.mmkv_top.specs.Player.{state_of, IsPlaying, IsTaken, IsTakenToEnd}
-use Rattle.mmkv_top.specs.Due.{IsAmong, IsPlayOf, IsFreshPlay, PlayIfAccepted, not_yet, play_statuses}
-use Rattle.mmkv_top.proofs.Playing.{plain_legal}
-use Rattle.mmkv_top.proofs.Taking.{refused_beyond, beyond_all}
-
-all_front : (texts : List (List ℕ)) (p : Player) (count : ℕ) (e : Ending) → IsPlaying p → IsTaken texts [] p count →
-    e ≡ ending 0 (flat_map outcome_line p.outcomes.items ++ changes_text p.changes.items) → IsPlayed texts e
-all_front texts p count e playing taken text =
-    let same : taken.front ≡ texts = sym (append-nil taken.front) ∙ sym taken.parts in
-    record {
-      outcomes = p.outcomes.items;
-      changes = p.changes.items;
-      within = subst IsWithin same taken.within;
-      history = record {
-        ended = state_of p;
-        played = subst (λ x. Plays at_start x (state_of p) p.outcomes.items) same taken.played;
-        counted = p.changes.ok.0;
-        legal = plain_legal p.map p.changes.items (answers_in p.outcomes.items) playing.plain;
-      };
-      text = text;
-    }
+use Rattle.mmkv_top.specs.State.{PlayerState}
+use Rattle.mmkv_top.specs.Parts.{lines_of, past_of, outcomes_of}
+use Rattle.mmkv_top.specs.Played.{Stock}
+use Rattle.mmkv_top.specs.Play.{IsWithin, AreLines, IsPlayed, IsEndedEarly, PlaysInput}
+use Rattle.mmkv_top.specs.Player.{IsReady, IsTaken, HaltsAt, IsEndingAt}
+use Rattle.mmkv_top.specs.Due.{IsAmong, IsPlayOf, IsInputPlay, PlayShown, play_statuses}
+use Rattle.mmkv_top.proofs.Judged.{journal_of}
 
 -- all lines were taken
-pub played_whole : (texts : List (List ℕ)) (p : Player) (t : Taken) (e : Ending) → t.refused ≡ false → IsPlaying p → IsTakenToEnd texts p t →
-    e ≡ ending 0 (flat_map outcome_line p.outcomes.items ++ changes_text p.changes.items) → IsPlayed texts e ⊎ IsScriptRefused texts false e
-played_whole texts p t e whole playing taken text =
-    inl (all_front texts p t.count e playing (subst (λ b. MatchBool b (IsFirstRefused texts false (t.count + 1)) (IsTaken texts [] p t.count)) whole taken) text)
+pub whole_played : (stock left : Stock) (start : Region) (texts : List (List ℕ)) (p : PlayerState) (count : ℕ) (e : Ending) → IsReady p → IsTaken stock left start texts [] p count →
+    e ≡ ending 0 (run_text p.outcomes (changes_of p.seat.region.past) (region_after p.seat.region.start p.seat.region.past)) → IsPlayed stock start texts e
+whole_played stock left start texts p count e ready taken text =
+    let same : taken.taken.front ≡ texts = sym (append-nil taken.taken.front) ∙ sym taken.taken.are in
+    let at = taken.at in
+    record {
+      parts = taken.parts;
+      within = subst IsWithin same taken.taken.within;
+      lines = subst (λ x. AreLines x (lines_of taken.parts)) same taken.taken.lines;
+      journal = journal_of stock left start taken.parts p ready at;
+      text = text
+          ∙ ap (λ x. ending 0 (run_text x (changes_of p.seat.region.past) (region_after p.seat.region.start p.seat.region.past))) at.outcomes
+          ∙ ap (λ x. ending 0 (run_text (outcomes_of taken.parts) (changes_of x) (region_after p.seat.region.start x))) at.past
+          ∙ ap (λ x. ending 0 (run_text (outcomes_of taken.parts) (changes_of (past_of taken.parts)) (region_after x (past_of taken.parts)))) at.start_is;
+    }
 
--- a line was refused
-pub refused_there : (texts : List (List ℕ)) (p : Player) (t : Taken) (e : Ending) → t.refused ≡ true → IsTakenToEnd texts p t →
-    e ≡ ending 9 (line (codes "script" ∷ decimal (t.count + 1) ∷ [])) → IsPlayed texts e ⊎ IsScriptRefused texts false e
-refused_there texts p t e stopped taken text =
-    inr (t.count + 1, subst (λ b. MatchBool b (IsFirstRefused texts false (t.count + 1)) (IsTaken texts [] p t.count)) stopped taken, text)
-
--- the line that holds the byte too many is refused, or one before it is
-pub refused_within : (texts : List (List ℕ)) (p : Player) (t : Taken) (e : Ending) → IsTakenToEnd texts p t →
-    e ≡ ending 9 (line (codes "script" ∷ decimal (t.count + 1) ∷ [])) → IsScriptRefused texts true e
-refused_within texts p t e taken text = (t.count + 1, go t.refused taken, text)
-  where
-    go : (b : Bool) → MatchBool b (IsFirstRefused texts false (t.count + 1)) (IsTaken texts [] p t.count) → IsFirstRefused texts true (t.count + 1)
-    go true h = refused_beyond texts (t.count + 1) h
-    go false h = beyond_all texts p t.count h
+-- a line ended the play
+pub ended_early : (stock : Stock) (start : Region) (texts : List (List ℕ)) (beyond : Bool) (number : ℕ) (why : Halt) (e : Ending) →
+    HaltsAt stock start texts beyond number why → IsEndingAt number why e → IsEndedEarly stock start texts beyond e
+ended_early stock start texts beyond number halt.Refused e halts is = inl (number, halts, is)
+ended_early stock start texts beyond number halt.JournalFull e halts is = inr (inl (number, halts, is))
+ended_early stock start texts beyond number halt.NotWhole e halts is = inr (inr (number, halts, is))
+ended_early stock start texts beyond number halt.Memory e halts is = absurd is
 
 abbrev IsOneOf : Ending → Type 0
 IsOneOf e = IsAmong play_statuses e.status
@@ -60,23 +52,45 @@ IsOneOf e = IsAmong play_statuses e.status
 with_status : (e : Ending) (status : ℕ) (text : List ℕ) → IsAmong play_statuses status → e ≡ ending status text → IsOneOf e
 with_status e status text c is = subst IsOneOf (sym is) c
 
-input_status : (left now : Option (List ℕ)) (e : Ending) → PlaysInput left now e → IsOneOf e
-input_status left now e (inl h) = elim h.2 [
-  | inl p ↦ with_status e 0 (flat_map outcome_line p.outcomes ++ changes_text p.changes) refl p.text
-  | inr r ↦ with_status e 9 (line (codes "script" ∷ decimal r.0 ∷ [])) refl r.2
+early_status : (stock : Stock) (start : Region) (texts : List (List ℕ)) (beyond : Bool) (e : Ending) → IsEndedEarly stock start texts beyond e → IsOneOf e
+early_status stock start texts beyond e (inl h) = with_status e 9 (line (codes "script" ∷ decimal h.0 ∷ [])) refl h.2
+early_status stock start texts beyond e (inr (inl h)) = with_status e 16 (line (codes "journal" ∷ decimal h.0 ∷ [])) refl h.2
+early_status stock start texts beyond e (inr (inr h)) = with_status e 17 (codes "not yet\n") refl h.2
+
+input_status : (stock : Stock) (start : Region) (left now : Option (List ℕ)) (e : Ending) → PlaysInput stock start left now e → IsOneOf e
+input_status stock start left now e (inl h) = elim h.2 [
+  | inl p ↦ with_status e 0 (run_text (outcomes_of p.parts) (changes_of (past_of p.parts)) (region_after start (past_of p.parts))) refl p.text
+  | inr r ↦ early_status stock start _ false e r
 ]
-input_status left now e (inr h) = with_status e 9 (line (codes "script" ∷ decimal h.4.0 ∷ [])) refl h.4.2
+input_status stock start left now e (inr h) = early_status stock start _ true e h.4
 
 -- the play of a region has one of these statuses
-pub play_of_status : (left now : Option (List ℕ)) (rose : Type 0) (r : Region) (e : Ending) → IsPlayOf left now rose r e → IsAmong play_statuses e.status
-play_of_status left now rose r e = go (checked (record_of r) (header r))
+pub play_of_status : (stock : Stock) (left now : Option (List ℕ)) (rose : Type 0) (r : Region) (e : Ending) → IsPlayOf stock left now rose r e → IsAmong play_statuses e.status
+play_of_status stock left now rose r e = go (shown_if_accepted r)
   where
-    fresh : (b : Bool) → MatchBool b (IsFreshPlay left now rose e) (e ≡ not_yet) → IsOneOf e
-    fresh true (inl h) = input_status left now e h
-    fresh true (inr h) = with_status e 3 (codes "read fault\n") refl h.0
-    fresh false h = with_status e 17 (codes "not yet\n") refl h
-
-    go : (c : Result (Unit {0}) RecordFault) → PlayIfAccepted c (record_of r).version left now rose e → IsOneOf e
+    go : (s : Result Shown RecordFault) → PlayShown s stock r left now rose e → IsOneOf e
     go (Err (Version n)) h = with_status e 10 (line (codes "version" ∷ decimal n ∷ [])) refl h
     go (Err (Flags n)) h = with_status e 10 (line (codes "flags" ∷ decimal n ∷ [])) refl h
-    go (Ok u) h = fresh ((record_of r).version == 0) h
+    go (Ok (Whole n)) (inl h) = input_status stock r left now e h
+    go (Ok (Whole n)) (inr h) = with_status e 3 (codes "read fault\n") refl h.0
+    go (Ok (Header n)) h = with_status e 17 (codes "not yet\n") refl h
+    go (Ok (Last n)) h = with_status e 17 (codes "not yet\n") refl h
+    go (Ok (Damaged d)) h = with_status e 17 (codes "not yet\n") refl h
+
+-- what was appended piece by piece
+pub texts_join : (a b c d outcomes changes region : List ℕ) → a ≡ [] → b ≡ a ++ outcomes → c ≡ b ++ changes → d ≡ c ++ region → d ≡ outcomes ++ (changes ++ region)
+texts_join a b c d outcomes changes region e0 e1 e2 e3 =
+    e3 ∙ ap (λ x. x ++ region) (e2 ∙ ap (λ x. x ++ changes) (e1 ∙ ap (λ x. x ++ outcomes) e0)) ∙ append_assoc outcomes changes region
+
+-- what shows anything is accepted
+pub accepted_shown : (r : Region) (s : Shown) → shown_if_accepted r ≡ Ok s → IsAccepted r
+accepted_shown r s h = go (checked (record_of r) (header r)) h
+  where
+    go : (c : Result (Unit {0}) RecordFault) → if_accepted c (shown r) ≡ Ok s → IsOk c
+    go (Ok u) h = refl
+    go (Err fault) h = absurd cc
+
+-- the play of a region that shows a whole image is that of the input
+pub whole_shown : (stock : Stock) (left now : Option (List ℕ)) (rose : Type 0) (r : Region) (n : ℕ) (e : Ending) → shown_if_accepted r ≡ Ok (Whole n) →
+    IsInputPlay stock r left now rose e → IsPlayOf stock left now rose r e
+whole_shown stock left now rose r n e shows h = subst (λ s. PlayShown s stock r left now rose e) (sym shows) h

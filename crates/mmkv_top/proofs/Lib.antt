@@ -1,4 +1,8 @@
 mod Dumped
-mod Playing
+mod Stepping
+mod Answering
+mod LineEnds
+mod Opening
+mod Judged
 mod Taking
 mod Ended

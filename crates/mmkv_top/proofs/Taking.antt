@@ -1,106 +1,104 @@
--- A play goes on by one line.
-use Rattle.std.proofs.Common.{◌≡◌, ℕ, ◌+◌, ◌<◌, ◌≤◌, Bool, true, false, List, [], ◌∷◌, ◌++◌, length, refl, sym, ap, ◌∙◌, inl, inr, arith, subst, length-append, append_assoc, append-nil, vec_len}
-use Rattle.std.specs.Prelude.{Option}
-use Rattle.std.specs.Bool.{OnFalse}
+-- A play goes on by one line, or ends there.
+use Rattle.std.proofs.Common.{ℕ, ◌+◌, ◌<◌, ◌≤◌, true, false, List, [], ◌∷◌, ◌++◌, length, refl, sym, ap, ◌∙◌, inl, inr, arith, subst, length-append, append_assoc}
+use Rattle.std.specs.Prelude.{Option, Result, Ok, Err}
 use Rattle.std.proofs.lemmas.List.Elements.{All-push}
+use Rattle.region_words.specs.Region.{Region}
 use Rattle.script_lang.specs.declared.line.Line.{Line}
-use Rattle.script_lang.specs.declared.outcome.Outcome.{Outcome}
 use Rattle.script_lang.specs.Lines.{IsLine}
 use Rattle.script_lang.proofs.OneMeaning.{names_one_thing}
+use Rattle.mmkv_top.specs.declared.halt.Halt.{Halt}
+use Rattle.mmkv_top.specs.declared.halt.Halt.TheVariants as halt
 use Rattle.mmkv_top.specs.declared.limits.TheConstants.{LARGEST_COUNT, LARGEST_LINE}
-use Rattle.mmkv_top.specs.declared.player.Player.{Player}
-use Rattle.mmkv_top.specs.Play.{State, at_start, Leads, Plays, IsRefusedIn, IsRefusedNext, IsFirstRefused}
-use Rattle.mmkv_top.specs.Player.{state_of, AddsText, IsRefusedAfter, IsTaken}
+use Rattle.mmkv_top.specs.State.{PlayerState}
+use Rattle.mmkv_top.specs.Parts.{Part, lines_of}
+use Rattle.mmkv_top.specs.Played.{Stock}
+use Rattle.mmkv_top.specs.Play.{AreLines, CanTake, IsPlayedTo, IsFirstRefused, IsRefusedNext}
+use Rattle.mmkv_top.specs.Player.{IsAt, IsReady, Takes, TakesText, TextHalts, TakesOrHalts, IsTaken, HaltsAt}
+use Rattle.mmkv_top.proofs.Judged.{journal_of}
 
--- one more line is played
-plays_more : (s : State) (texts : List (List ℕ)) (mid t : State) (os more : List Outcome) (text : List ℕ) (l : Option Line) →
-    Plays s texts mid os → IsLine text l → Leads mid l t more → Plays s (texts ++ text ∷ []) t (os ++ more)
-plays_more s [] mid t os more text l p is leads =
-    (l, t, more, [], is, subst (λ x. Leads x l t more) p.0 leads, (refl, refl), ap (λ z. z ++ more) p.1 ∙ sym (append-nil more))
-plays_more s (first ∷ texts) mid t os more text l p is leads =
-    (p.0, p.1, p.2, p.3 ++ more, p.4, p.5, plays_more p.1 texts mid t p.3 more text l p.6 is leads, ap (λ z. z ++ more) p.7 ∙ append_assoc p.2 p.3 more)
+-- a line that was read is taken, or ends the play
+pub text_takes : {A : Type 0} (stock left : Stock) (start : Region) (parts : List Part) (count : ℕ) (text : List ℕ) (q : PlayerState) (line : Option Line) (result : Result A Halt) →
+    count < LARGEST_COUNT → length text ≤ LARGEST_LINE → IsLine text line → Takes stock left start parts line q result → TakesOrHalts stock left start parts count text q result
+text_takes stock left start parts count text q line (Ok x) few short is takes = record { few = few; short = short; named = line; is = is; one = takes }
+text_takes stock left start parts count text q line (Err halt.Refused) few short is takes =
+    inr (inr (λ other reads can. takes (subst (CanTake stock parts) (names_one_thing text other line reads is) can)))
+text_takes stock left start parts count text q line (Err halt.Memory) few short is takes = tt
+text_takes stock left start parts count text q line (Err halt.JournalFull) few short is takes = (takes.0, subst (IsLine text) takes.1 is, subst (CanTake stock parts) takes.1 takes.2)
+text_takes stock left start parts count text q line (Err halt.NotWhole) few short is takes = (takes.0, subst (IsLine text) takes.1 is, subst (CanTake stock parts) takes.1 takes.2)
 
--- a line that was read names nothing else
-pub refused_in : (s : State) (text : List ℕ) (l : Option Line) → IsLine text l → ((t : State) (more : List Outcome) → Leads s l t more → ⊥) → IsRefusedIn s text
-refused_in s text l is refuses = λ m t more reads leads. refuses t more (subst (λ x. Leads s x t more) (names_one_thing text m l reads is) leads)
+lines_more : (texts : List (List ℕ)) (lines : List (Option Line)) (text : List ℕ) (line : Option Line) → AreLines texts lines → IsLine text line → AreLines (texts ++ text ∷ []) (lines ++ line ∷ [])
+lines_more [] lines text line are is = (line, [], ap (λ x. x ++ line ∷ []) are, is, refl)
+lines_more (first ∷ texts) lines text line are is =
+    (are.0, are.1 ++ line ∷ [], ap (λ x. x ++ line ∷ []) are.2, are.3, lines_more texts are.1 text line are.4 is)
 
 -- nothing was taken of these texts
-pub none_taken : (texts : List (List ℕ)) (p : Player) → state_of p ≡ at_start → p.outcomes.items ≡ [] → IsTaken texts texts p 0
-none_taken texts p s o =
+pub none_taken : (stock left : Stock) (start : Region) (texts : List (List ℕ)) (p : PlayerState) → IsAt stock left start [] p → IsTaken stock left start texts texts p 0
+none_taken stock left start texts p at =
     record {
-      front = [];
-      parts = refl;
-      within = (omega arith, λ k d lt. absurd (omega (arith, lt)));
-      played = (s, o);
-      counted = refl;
-      few = omega (arith, ap (λ (x : State). x.changes) s);
+      parts = [];
+      taken = record { front = []; are = refl; within = (omega arith, λ k d lt. absurd (omega (arith, lt))); lines = refl; counted = refl };
+      at = at;
     }
 
 -- one more text was taken
-pub one_taken : (texts left : List (List ℕ)) (text : List ℕ) (p q : Player) (count : ℕ) → count < LARGEST_COUNT →
-    IsTaken texts (text ∷ left) p count → AddsText p q text → vec_len q.changes ≤ vec_len p.changes + 1 → IsTaken texts left q (count + 1)
-one_taken texts left text p q count below taken adds few =
-    let line = adds.1 in
+pub one_taken : (stock before left : Stock) (start : Region) (texts rest : List (List ℕ)) (text : List ℕ) (p q : PlayerState) (count : ℕ)
+    (taken : IsTaken stock before start texts (text ∷ rest) p count) → TakesText stock left start taken.parts count text q → IsTaken stock left start texts rest q (count + 1)
+one_taken stock before left start texts rest text p q count taken takes =
+    let so_far = taken.taken in
     record {
-      front = taken.front ++ text ∷ [];
-      parts = taken.parts ∙ sym (append_assoc taken.front (text ∷ []) left);
-      within = (omega (arith, taken.counted, below, length-append taken.front (text ∷ [])), All-push (λ t. length t ≤ LARGEST_LINE) taken.front text taken.within.1 adds.0);
-      played = subst (Plays at_start (taken.front ++ text ∷ []) (state_of q)) (sym line.2.1) (plays_more at_start taken.front (state_of p) (state_of q) p.outcomes.items line.2.0 text line.0 taken.played line.1 line.2.2);
-      counted = omega (arith, taken.counted, length-append taken.front (text ∷ []));
-      few = omega (arith, taken.few, few);
+      parts = record { line = takes.named; made = takes.one.0; outcome = takes.one.1 } ∷ taken.parts;
+      taken = record {
+        front = so_far.front ++ text ∷ [];
+        are = so_far.are ∙ sym (append_assoc so_far.front (text ∷ []) rest);
+        within = (omega (arith, so_far.counted, takes.few, length-append so_far.front (text ∷ [])), All-push (λ t. length t ≤ LARGEST_LINE) so_far.front text so_far.within.1 takes.short);
+        lines = lines_more so_far.front (lines_of taken.parts) text takes.named so_far.lines takes.is;
+        counted = omega (arith, so_far.counted, length-append so_far.front (text ∷ []));
+      };
+      at = takes.one.2;
     }
 
--- the next text is one too many, too long or refused
-pub stops_there : (texts left : List (List ℕ)) (text : List ℕ) (p : Player) (count : ℕ) →
-    IsTaken texts (text ∷ left) p count → IsRefusedAfter count (state_of p) text → IsFirstRefused texts false (count + 1)
-stops_there texts left text p count taken why =
+played_to : (stock left : Stock) (start : Region) (texts rest : List (List ℕ)) (p : PlayerState) (count : ℕ) → IsReady p → IsTaken stock left start texts rest p count →
+    IsPlayedTo stock start texts rest (count + 1)
+played_to stock left start texts rest p count ready taken =
     record {
-      front = taken.front;
-      rest = text ∷ left;
-      state = state_of p;
-      outcomes = p.outcomes.items;
+      front = taken.taken.front;
       parts = taken.parts;
-      within = taken.within;
-      played = taken.played;
-      refused = elim why [ inl many ↦ inl (omega (arith, many, taken.counted)) | inr bad ↦ inr bad ];
-      numbered = ap (λ n. n + 1) taken.counted;
+      are = taken.taken.are;
+      within = taken.taken.within;
+      lines = taken.taken.lines;
+      journal = journal_of stock left start taken.parts p ready taken.at;
+      numbered = ap (λ n. n + 1) taken.taken.counted;
     }
 
--- a line that is refused is refused as well where more lies beyond
-pub refused_beyond : (texts : List (List ℕ)) (number : ℕ) → IsFirstRefused texts false number → IsFirstRefused texts true number
-refused_beyond texts number f =
+-- the next text ended the play
+pub stops_there : (stock left : Stock) (start : Region) (texts rest : List (List ℕ)) (text : List ℕ) (p : PlayerState) (count : ℕ) (why : Halt) → IsReady p →
+    (taken : IsTaken stock left start texts (text ∷ rest) p count) → TextHalts stock taken.parts count text why → HaltsAt stock start texts false (count + 1) why
+unfolding played_to
+stops_there stock left start texts rest text p count halt.Refused ready taken halts =
     record {
-      front = f.front;
-      rest = f.rest;
-      state = f.state;
-      outcomes = f.outcomes;
-      parts = f.parts;
-      within = f.within;
-      played = f.played;
-      refused = go f.rest f.refused;
-      numbered = f.numbered;
+      rest = text ∷ rest;
+      before = played_to stock left start texts (text ∷ rest) p count ready taken;
+      refused = elim halts [ inl many ↦ inl (omega (arith, many)) | inr bad ↦ inr bad ];
     }
-  where
-    go : (rest : List (List ℕ)) → IsRefusedNext false (length f.front) f.state rest → IsRefusedNext true (length f.front) f.state rest
-    go [] h = refl
-    go (text ∷ rest) h = h
+stops_there stock left start texts rest text p count halt.Memory ready taken halts = tt
+stops_there stock left start texts rest text p count halt.JournalFull ready taken halts =
+    record { text = text; rest = rest; named = halts.0; before = played_to stock left start texts (text ∷ rest) p count ready taken; is = halts.1; can = halts.2 }
+stops_there stock left start texts rest text p count halt.NotWhole ready taken halts =
+    record { text = text; rest = rest; named = halts.0; before = played_to stock left start texts (text ∷ rest) p count ready taken; is = halts.1; can = halts.2 }
 
 -- where all was taken, the line that lies beyond is the first that is refused
-pub beyond_all : (texts : List (List ℕ)) (p : Player) (count : ℕ) → IsTaken texts [] p count → IsFirstRefused texts true (count + 1)
-beyond_all texts p count taken =
-    record {
-      front = taken.front;
-      rest = [];
-      state = state_of p;
-      outcomes = p.outcomes.items;
-      parts = taken.parts;
-      within = taken.within;
-      played = taken.played;
-      refused = refl;
-      numbered = ap (λ n. n + 1) taken.counted;
-    }
+pub beyond_all : (stock left : Stock) (start : Region) (texts : List (List ℕ)) (p : PlayerState) (count : ℕ) → IsReady p → IsTaken stock left start texts [] p count →
+    IsFirstRefused stock start texts true (count + 1)
+beyond_all stock left start texts p count ready taken =
+    record { rest = []; before = played_to stock left start texts [] p count ready taken; refused = refl }
 
-pub refused_later : (taken : Bool) (count : ℕ) (s : State) (text : List ℕ) (l : Option Line) → IsLine text l →
-    OnFalse taken ((t : State) (more : List Outcome) → Leads s l t more → ⊥) → OnFalse taken (IsRefusedAfter count s text)
-refused_later true count s text l is refuses = refuses
-refused_later false count s text l is refuses = inr (inr (refused_in s text l is refuses))
+-- a line that ended the play did so too where more lies beyond
+pub halts_beyond : (stock : Stock) (start : Region) (texts : List (List ℕ)) (number : ℕ) (why : Halt) → HaltsAt stock start texts false number why → HaltsAt stock start texts true number why
+halts_beyond stock start texts number halt.Refused f = record { rest = f.rest; before = f.before; refused = go f.rest f.refused }
+  where
+    go : (rest : List (List ℕ)) → IsRefusedNext stock false number f.before.parts rest → IsRefusedNext stock true number f.before.parts rest
+    go [] h = refl
+    go (text ∷ rest) h = h
+halts_beyond stock start texts number halt.Memory f = f
+halts_beyond stock start texts number halt.JournalFull f = f
+halts_beyond stock start texts number halt.NotWhole f = f

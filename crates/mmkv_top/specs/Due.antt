@@ -4,9 +4,8 @@ use Rattle.std.specs.List.{list_any}
 use Rattle.meta_record.specs.declared.record.RecordFault.{RecordFault}
 use Rattle.meta_record.specs.declared.record.RecordFault.TheVariants.{Version, Flags}
 use Rattle.meta_record.specs.declared.shown.Shown.{Shown}
-use Rattle.meta_record.specs.declared.shown.Shown.TheVariants.{Damaged}
-use Rattle.meta_record.specs.Records.{checked}
-use Rattle.region_words.specs.Region.{Region, region_of, record_of, header, shown_if_accepted}
+use Rattle.meta_record.specs.declared.shown.Shown.TheVariants.{Whole, Damaged}
+use Rattle.region_words.specs.Region.{Region, region_of, shown_if_accepted}
 use Rattle.region_words.specs.Stores.{Told, Untold, Nothing, Files, filled_up}
 use Rattle.region_words.specs.declared.shelf.TheConstants.{LARGEST_DATA, LARGEST_META}
 use Rattle.region_words.specs.declared.shelf.Brought.{Brought}
@@ -15,7 +14,8 @@ use Rattle.region_words.specs.declared.shelf.ShelfStop.TheVariants.{Failed, Abse
 use Rattle.script_lang.specs.Texts.{line, damage_text, region_text}
 use Rattle.mmkv_top.specs.declared.ending.Ending.{Ending}
 use Rattle.mmkv_top.specs.Ending.{ending, region_fault}
-use Rattle.mmkv_top.specs.Play.{PlaysInput}
+use Rattle.mmkv_top.specs.Played.{Stock}
+use Rattle.mmkv_top.specs.Play.{PlaysInput, not_yet}
 
 -- the two files of a store, as far as they count: whole pages
 abbrev pub region_in : List ℕ → List ℕ → Region
@@ -83,28 +83,26 @@ abbrev pub IsEndingOf : (Region → Ending → Type 0) → Result Brought ShelfS
 IsEndingOf of_region (Ok b) e = of_region (region_in b.body b.meta) e
 IsEndingOf of_region (Err stop) e = IsUnbrought stop e
 
--- a store that isn't fresh has no player yet
-abbrev pub not_yet : Ending
-not_yet = ending 17 (codes "not yet\n")
-
 abbrev pub read_fault : Ending
 read_fault = ending 3 (codes "read fault\n")
 
--- the play of a fresh store by the bytes left of the input; or the input had a fault
-abbrev pub IsFreshPlay : Option (List ℕ) → Option (List ℕ) → Type 0 → Ending → Type 0
-IsFreshPlay left now rose e = PlaysInput left now e ⊎ ((e ≡ read_fault) × rose)
+-- the play of a region by the bytes left of the input; or the input had a fault
+abbrev pub IsInputPlay : Stock → Region → Option (List ℕ) → Option (List ℕ) → Type 0 → Ending → Type 0
+IsInputPlay stock r left now rose e = PlaysInput stock r left now e ⊎ ((e ≡ read_fault) × rose)
 
-abbrev pub PlayIfAccepted : Result (Unit {0}) RecordFault → ℕ → Option (List ℕ) → Option (List ℕ) → Type 0 → Ending → Type 0
-PlayIfAccepted (Err fault) version left now rose e = e ≡ refused fault
-PlayIfAccepted (Ok _) version left now rose e = MatchBool (version == 0) (IsFreshPlay left now rose e) (e ≡ not_yet)
+-- the play of a region that shows this: only a whole image is played on
+abbrev pub PlayShown : Result Shown RecordFault → Stock → Region → Option (List ℕ) → Option (List ℕ) → Type 0 → Ending → Type 0
+PlayShown (Err fault) stock r left now rose e = e ≡ refused fault
+PlayShown (Ok (Whole n)) stock r left now rose e = IsInputPlay stock r left now rose e
+PlayShown (Ok _) stock r left now rose e = e ≡ not_yet
 
--- the play of a region: an accepted one of version 0 is fresh
-abbrev pub IsPlayOf : Option (List ℕ) → Option (List ℕ) → Type 0 → Region → Ending → Type 0
-IsPlayOf left now rose r e = PlayIfAccepted (checked (record_of r) (header r)) (record_of r).version left now rose e
+-- the play of a region
+abbrev pub IsPlayOf : Stock → Option (List ℕ) → Option (List ℕ) → Type 0 → Region → Ending → Type 0
+IsPlayOf stock left now rose r e = PlayShown (shown_if_accepted r) stock r left now rose e
 
 abbrev pub play_statuses : List ℕ
-play_statuses = 0 ∷ 3 ∷ 9 ∷ 10 ∷ 13 ∷ 14 ∷ 17 ∷ []
+play_statuses = 0 ∷ 3 ∷ 9 ∷ 10 ∷ 13 ∷ 14 ∷ 16 ∷ 17 ∷ []
 
 -- the ending of `play` by what lies under the ID, and by the bytes left of the input
-abbrev pub IsPlay : Option (List ℕ) → Option (List ℕ) → Type 0 → Told → Ending → Type 0
-IsPlay left now rose = OfStore play_statuses (IsPlayOf left now rose)
+abbrev pub IsPlay : Stock → Option (List ℕ) → Option (List ℕ) → Type 0 → Told → Ending → Type 0
+IsPlay stock left now rose = OfStore play_statuses (IsPlayOf stock left now rose)

@@ -1,7 +1,9 @@
 pub mod Command
 pub mod Ending
-pub mod Due
+pub mod Parts
+pub mod Played
 pub mod Play
-pub mod Plain
-pub mod Answers
+pub mod Halting
+pub mod State
 pub mod Player
+pub mod Due

@@ -1,109 +1,25 @@
--- What `play` does with the lines of a script, for one opener over a plain map.
-use Rattle.std.specs.Prelude.{◌≡◌, ◌≢◌, ℕ, ◌+◌, ◌-◌, ◌<◌, ◌≤◌, ◌⊎◌, Bool, true, false, List, [], ◌∷◌, ◌++◌, Option, Some, None, length, take, map, flat_map, All, nat_eq, slice_index, is_some, if◌then◌else◌, codes, decimal}
+-- What `play` ends with, by the region brought and the bytes of the input.
+use Rattle.std.specs.Prelude.{◌≡◌, ◌≢◌, ℕ, ◌+◌, ◌-◌, ◌<◌, ◌≤◌, ◌⊎◌, Bool, true, false, List, [], ◌∷◌, ◌++◌, Option, Some, None, length, take, map, All, AllPairs, nat_eq, slice_index, if◌then◌else◌, codes, decimal, ⊤}
 use Rattle.std.specs.List.{ends_with}
-use Rattle.bstr.specs.Text.{lines_of}
-use Rattle.std.specs.FinMap as fin
-use Rattle.change_log.specs.Acts.{act_of}
-use Rattle.change_log.specs.History.{Legal}
-use Rattle.change_log.specs.declared.call.Call.{Call}
-use Rattle.change_log.specs.declared.call.Call.TheVariants as call
+use Rattle.bstr.specs.Text.{lines_of as cut_lines}
+use Rattle.change_log.specs.History.{IsPlaced, IsMade}
 use Rattle.change_log.specs.declared.call.Answer.{Answer}
-use Rattle.change_log.specs.declared.change.Change.{Change}
+use Rattle.opener.specs.Calls.{IsBuilt}
+use Rattle.region_words.specs.Region.{Region, IsAccepted, base}
+use Rattle.region_words.specs.Past.{region_after, changes_of}
+use Rattle.region_words.specs.Apart.{Apart}
+use Rattle.region_words.specs.Lawful.{Lawful}
+use Rattle.region_words.specs.declared.event.Event.{Event}
 use Rattle.script_lang.specs.declared.line.Line.{Line}
-use Rattle.script_lang.specs.declared.line.Line.TheVariants.{Open, Begin, Step}
-use Rattle.handlers.specs.declared.handler.Strategy.TheVariants.{Leave}
-use Rattle.script_lang.specs.declared.outcome.Outcome.{Outcome}
-use Rattle.script_lang.specs.declared.outcome.Outcome.TheVariants.{Answered, Stopped}
-use Rattle.script_lang.specs.declared.outcome.Reason.TheVariants.{ExpiryOff}
+use Rattle.script_lang.specs.declared.line.Line.TheVariants.{Open, Begin, Step, Die, Next}
 use Rattle.script_lang.specs.Lines.{IsLine}
 use Rattle.script_lang.specs.Script.{IsWholeInput, IsCutInput}
-use Rattle.script_lang.specs.Texts.{line, outcome_line, changes_text}
+use Rattle.script_lang.specs.Texts.{line, run_text}
 use Rattle.mmkv_top.specs.declared.limits.TheConstants.{LARGEST_COUNT, LARGEST_LINE}
 use Rattle.mmkv_top.specs.declared.ending.Ending.{Ending}
 use Rattle.mmkv_top.specs.Ending.{ending}
-use Rattle.mmkv_top.specs.declared.mode.Mode.{Mode}
-use Rattle.mmkv_top.specs.declared.mode.Mode.TheVariants.{Unopened, Resting, Running}
-
--- the opener's mode, and how many changes were made
-pub record State : Type 0 where
-  pub mode : Mode
-  pub changes : ℕ
-
--- before the first line
-abbrev pub at_start : State
-at_start = record { mode = Unopened; changes = 0 }
-
--- the calls that may begin: no key and no value is empty
-abbrev pub MayBegin : Call → Type 0
-MayBegin (call.Get key) = key ≢ []
-MayBegin (call.Put key value seconds) = (key ≢ []) × (value ≢ [])
-MayBegin (call.Remove key) = key ≢ []
-MayBegin _ = ⊥
-
--- a plain map knows no expiry, so a put that lives for some seconds is stopped
-abbrev pub NeedsExpiry : Call → Type 0
-NeedsExpiry (call.Put key value seconds) = 0 < seconds
-NeedsExpiry _ = ⊥
-
--- the number of changes that a call makes
-abbrev pub change_count : Call → ℕ → ℕ
-change_count c now = if is_some (act_of c now) then 1 else 0
-
--- the answer is opener 1's to this call, which began when so many changes were made; it is answered in its first step
-pub record IsAnswerTo (now : ℕ) (c : Call) (begun ended : ℕ) (a : Answer) : Type 0 where
-  pub who : a.who ≡ 1
-  pub call : a.call ≡ c
-  pub moment : a.now ≡ now
-  pub begun_at : a.begun ≡ begun
-  pub ended_at : a.ended ≡ ended
-  pub loads : a.loads ≡ 0
-  pub stores : a.stores ≡ 0
-  pub locks : a.locks ≡ 0
-
--- a step of the running call ends it: it is stopped, or it is answered
-abbrev pub EndsCall : ℕ → Call → ℕ → State → State → Outcome → Type 0
-EndsCall now c begun s t (Stopped who ExpiryOff) = NeedsExpiry c × (who ≡ 1) × (t ≡ record s { mode = Resting })
-EndsCall now c begun s t (Answered a) =
-    (NeedsExpiry c → ⊥) × IsAnswerTo now c begun t.changes a × (t ≡ record { mode = Resting; changes = s.changes + change_count c now })
-EndsCall now c begun s t _ = ⊥
-
--- a step of opener 1 in this mode leads from one state to the next, with these outcomes
-abbrev pub Steps : Mode → State → State → List Outcome → Type 0
-Steps Unopened s t outcomes = ⊥
-Steps Resting s t outcomes = (t ≡ s) × (outcomes ≡ [])
-Steps (Running now c begun) s t outcomes = (o : Outcome) × (outcomes ≡ o ∷ []) × EndsCall now c begun s t o
-
--- a line leads from one state to the next, with these outcomes: the opener is opened, a call begins, or it steps
-abbrev pub Leads : State → Option Line → State → List Outcome → Type 0
-Leads s None t outcomes = (t ≡ s) × (outcomes ≡ [])
-Leads s (Some (Open Leave)) t outcomes = (s.mode ≡ Unopened) × (t ≡ record s { mode = Resting }) × (outcomes ≡ [])
-Leads s (Some (Begin who now c)) t outcomes =
-    (s.mode ≡ Resting) × (who ≡ 1) × MayBegin c × (t ≡ record s { mode = Running now c s.changes }) × (outcomes ≡ [])
-Leads s (Some (Step who count)) t outcomes = (who ≡ 1) × Steps s.mode s t outcomes
-Leads s _ t outcomes = ⊥
-
--- the texts of the lines lead from one state to another, with these outcomes
-abbrev pub Plays : State → List (List ℕ) → State → List Outcome → Type 0
-Plays s [] t outcomes = (t ≡ s) × (outcomes ≡ [])
-Plays s (text ∷ texts) t outcomes =
-    (l : Option Line) × (mid : State) × (first : List Outcome) × (rest : List Outcome)
-    × IsLine text l × Leads s l mid first × Plays mid texts t rest × (outcomes ≡ first ++ rest)
-
--- the text of a line is none of the grammar, or what it names is refused in this state
-abbrev pub IsRefusedIn : State → List ℕ → Type 0
-IsRefusedIn s text = (l : Option Line) (t : State) (outcomes : List Outcome) → IsLine text l → Leads s l t outcomes → ⊥
-
-abbrev pub answers_in : List Outcome → List Answer
-answers_in [] = []
-answers_in (Answered a ∷ rest) = a ∷ answers_in rest
-answers_in (_ ∷ rest) = answers_in rest
-
--- the outcomes and changes are those of a play of these lines, and one legal history of an empty map
-pub record IsHistoryOf (texts : List (List ℕ)) (outcomes : List Outcome) (changes : List Change) : Type 0 where
-  pub ended : State
-  pub played : Plays at_start texts ended outcomes
-  pub counted : ended.changes ≡ length changes
-  pub legal : Legal fin.empty changes (answers_in outcomes)
+use Rattle.mmkv_top.specs.Parts.{Part, lines_of, past_of, outcomes_of, answers_in, strategies}
+use Rattle.mmkv_top.specs.Played.{Stock, MayCome, ArePlayed}
 
 -- a line without its line feed
 abbrev pub without_feed : List ℕ → List ℕ
@@ -111,7 +27,7 @@ without_feed line = if ends_with nat_eq line (10 ∷ []) then take (length line 
 
 -- the texts of a script's lines: what stands before each line feed, and behind the last one if anything does
 abbrev pub texts_of : List ℕ → List (List ℕ)
-texts_of script = map without_feed (lines_of script)
+texts_of script = map without_feed (cut_lines script)
 
 -- the script's lines that end are its first bytes, so many: behind them stands no line feed
 pub record EndsLines (script : List ℕ) (size : ℕ) : Type 0 where
@@ -123,38 +39,107 @@ pub record EndsLines (script : List ℕ) (size : ℕ) : Type 0 where
 abbrev pub IsWithin : List (List ℕ) → Type 0
 IsWithin texts = (length texts ≤ LARGEST_COUNT) × All (λ text. length text ≤ LARGEST_LINE) texts
 
--- the next line is one too many, is too long, is none of the grammar, or is refused in this state; or there is none, but
--- the byte that is one too many lies beyond
-abbrev pub IsRefusedNext : Bool → ℕ → State → List (List ℕ) → Type 0
-IsRefusedNext beyond number s [] = beyond ≡ true
-IsRefusedNext beyond number s (text ∷ texts) = (LARGEST_COUNT ≤ number) ⊎ (LARGEST_LINE < length text) ⊎ IsRefusedIn s text
+-- the texts name these, one after another
+abbrev pub AreLines : List (List ℕ) → List (Option Line) → Type 0
+AreLines [] lines = lines ≡ []
+AreLines (text ∷ texts) lines = (l : Option Line) × (rest : List (Option Line)) × (lines ≡ l ∷ rest) × IsLine text l × AreLines texts rest
 
--- the line of this number is the first that is refused
-pub record IsFirstRefused (texts : List (List ℕ)) (beyond : Bool) (number : ℕ) : Type 0 where
+-- so far there is one opener, which doesn't die and leaves the expiry as it is
+abbrev pub IsPlayable : List Part → Line → Type 0
+IsPlayable parts (Open strategy) = strategies parts ≡ []
+IsPlayable parts (Begin who now call) = IsBuilt call
+IsPlayable parts (Step who count) = ⊤
+IsPlayable parts (Die who bits) = ⊥
+IsPlayable parts (Next who now call) = ⊥
+
+-- a line that names nothing can always be taken
+abbrev pub CanTake : Stock → List Part → Option Line → Type 0
+CanTake stock parts None = ⊤
+CanTake stock parts (Some l) = MayCome stock parts l × IsPlayable parts l
+
+-- One caller's answers are in its order, and the change that an answered call makes stands at its place. Where checksums tell payloads
+-- apart, each answered call has its place between its begin and its answer, and found there the map of the changes before it.
+pub record AreAnswered (start : Region) (past : List Event) (answers : List Answer) : Type 0 where
+  pub in_order : AllPairs (λ a b. a.who ≡ b.who → a.ended ≤ b.begun) answers
+  pub made : All (IsMade (base start) (changes_of past)) answers
+  pub placed : IsAccepted start → Apart start past → All (IsPlaced (base start) (changes_of past)) answers
+
+-- a journal of these parts, which is lawful and in which the answers stand
+pub record IsJournal (stock : Stock) (start : Region) (parts : List Part) : Type 0 where
+  pub each : ArePlayed stock parts
+  pub lawful : Lawful start (past_of parts)
+  pub answers : AreAnswered start (past_of parts) (answers_in (outcomes_of parts))
+
+-- all lines are played, and the text is that of their outcomes, of their changes, and of the region left
+pub record IsPlayed (stock : Stock) (start : Region) (texts : List (List ℕ)) (e : Ending) : Type 0 where
+  pub parts : List Part
+  pub within : IsWithin texts
+  pub lines : AreLines texts (lines_of parts)
+  pub journal : IsJournal stock start parts
+  pub text : e ≡ ending 0 (run_text (outcomes_of parts) (changes_of (past_of parts)) (region_after start (past_of parts)))
+
+-- the lines before the one of this number are played; these texts are left
+pub record IsPlayedTo (stock : Stock) (start : Region) (texts rest : List (List ℕ)) (number : ℕ) : Type 0 where
   pub front : List (List ℕ)
-  pub rest : List (List ℕ)
-  pub state : State
-  pub outcomes : List Outcome
-  pub parts : texts ≡ front ++ rest
+  pub parts : List Part
+  pub are : texts ≡ front ++ rest
   pub within : IsWithin front
-  pub played : Plays at_start front state outcomes
-  pub refused : IsRefusedNext beyond (length front) state rest
+  pub lines : AreLines front (lines_of parts)
+  pub journal : IsJournal stock start parts
   pub numbered : number ≡ length front + 1
 
--- all lines are played, and the text is that of a legal history
-pub record IsPlayed (texts : List (List ℕ)) (e : Ending) : Type 0 where
-  pub outcomes : List Outcome
-  pub changes : List Change
-  pub within : IsWithin texts
-  pub history : IsHistoryOf texts outcomes changes
-  pub text : e ≡ ending 0 (flat_map outcome_line outcomes ++ changes_text changes)
+-- the text names nothing that can be done
+abbrev pub IsRefusedIn : Stock → List Part → List ℕ → Type 0
+IsRefusedIn stock parts text = (l : Option Line) → IsLine text l → CanTake stock parts l → ⊥
+
+-- the next line is one too many, is too long, is none of the grammar, or can't be done; or there is none, but
+-- the byte that is one too many lies beyond
+abbrev pub IsRefusedNext : Stock → Bool → ℕ → List Part → List (List ℕ) → Type 0
+IsRefusedNext stock beyond number parts [] = beyond ≡ true
+IsRefusedNext stock beyond number parts (text ∷ texts) = (LARGEST_COUNT < number) ⊎ (LARGEST_LINE < length text) ⊎ IsRefusedIn stock parts text
+
+-- the line of this number is the first that is refused
+pub record IsFirstRefused (stock : Stock) (start : Region) (texts : List (List ℕ)) (beyond : Bool) (number : ℕ) : Type 0 where
+  pub rest : List (List ℕ)
+  pub before : IsPlayedTo stock start texts rest number
+  pub refused : IsRefusedNext stock beyond number before.parts rest
+
+-- the next line can be taken, and ended the play
+pub record IsHalted (stock : Stock) (start : Region) (texts : List (List ℕ)) (number : ℕ) : Type 0 where
+  pub text : List ℕ
+  pub rest : List (List ℕ)
+  pub named : Line
+  pub before : IsPlayedTo stock start texts (text ∷ rest) number
+  pub is : IsLine text (Some named)
+  pub can : CanTake stock before.parts (Some named)
 
 -- a line is refused, and named
-abbrev pub IsScriptRefused : List (List ℕ) → Bool → Ending → Type 0
-IsScriptRefused texts beyond e = (number : ℕ) × IsFirstRefused texts beyond number × (e ≡ ending 9 (line (codes "script" ∷ decimal number ∷ [])))
+abbrev pub IsScriptRefused : Stock → Region → List (List ℕ) → Bool → Ending → Type 0
+IsScriptRefused stock start texts beyond e =
+    (number : ℕ) × IsFirstRefused stock start texts beyond number × (e ≡ ending 9 (line (codes "script" ∷ decimal number ∷ [])))
 
--- the whole input is a script that is played or refused; or the input has a byte too many, and a line is refused, be it that which holds it
-abbrev pub PlaysInput : Option (List ℕ) → Option (List ℕ) → Ending → Type 0
-PlaysInput left now e =
-    ((script : List ℕ) × IsWholeInput left now script × (IsPlayed (texts_of script) e ⊎ IsScriptRefused (texts_of script) false e))
-    ⊎ ((script : List ℕ) × (size : ℕ) × IsCutInput left script × EndsLines script size × IsScriptRefused (texts_of (take size script)) true e)
+-- the journal had no place for what a line makes, and the line is named
+abbrev pub IsJournalFull : Stock → Region → List (List ℕ) → Ending → Type 0
+IsJournalFull stock start texts e =
+    (number : ℕ) × IsHalted stock start texts number × (e ≡ ending 16 (line (codes "journal" ∷ decimal number ∷ [])))
+
+-- a region without a whole image isn't repaired yet
+abbrev pub not_yet : Ending
+not_yet = ending 17 (codes "not yet\n")
+
+-- a line met such a region
+abbrev pub MeetsNoImage : Stock → Region → List (List ℕ) → Ending → Type 0
+MeetsNoImage stock start texts e = (number : ℕ) × IsHalted stock start texts number × (e ≡ not_yet)
+
+-- a line ended the play
+abbrev pub IsEndedEarly : Stock → Region → List (List ℕ) → Bool → Ending → Type 0
+IsEndedEarly stock start texts beyond e =
+    IsScriptRefused stock start texts beyond e ⊎ IsJournalFull stock start texts e ⊎ MeetsNoImage stock start texts e
+
+-- the whole input is a script that is played, or ended early; or the input has a byte too many, and a line ends the play, be it that which holds it
+abbrev pub PlaysInput : Stock → Region → Option (List ℕ) → Option (List ℕ) → Ending → Type 0
+PlaysInput stock start left now e =
+    ((script : List ℕ) × IsWholeInput left now script
+    × (IsPlayed stock start (texts_of script) e ⊎ IsEndedEarly stock start (texts_of script) false e))
+    ⊎ ((script : List ℕ) × (size : ℕ) × IsCutInput left script × EndsLines script size
+    × IsEndedEarly stock start (texts_of (take size script)) true e)

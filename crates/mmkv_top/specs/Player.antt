@@ -1,57 +1,200 @@
--- The player of a script: its state, and what it adds to its outcomes.
-use Rattle.std.specs.Prelude.{◌≡◌, ℕ, ◌+◌, ◌<◌, ◌≤◌, ◌⊎◌, false, List, [], ◌∷◌, ◌++◌, Option, MatchBool, length}
-use Rattle.std.specs.Vec.{vec_len}
-use Rattle.change_log.specs.declared.call.Call.{Call}
+-- The player of a script, and how far it has come.
+use Rattle.std.specs.Prelude.{◌≡◌, ℕ, ◌<◌, ◌≤◌, ◌⊎◌, Bool, List, [], ◌∷◌, ◌++◌, Option, Some, None, Result, Ok, Err, length, option_map, replicate, codes, decimal, ⊤}
+use Rattle.std.specs.List.{AllByRecursion}
+use Rattle.change_log.specs.Settled.{AreEndedBy}
+use Rattle.change_log.specs.declared.call.Answer.{Answer}
+use Rattle.lock_rules.specs.Locks.{IsLeastAgainst}
+use Rattle.lock_rules.specs.declared.table.LockKind.{LockKind}
+use Rattle.opener.specs.Calls.{holds_after}
+use Rattle.opener.specs.Opener.{Tied, OnAnswer, IsAnswer}
+use Rattle.opener.specs.State.{OpenerState}
+use Rattle.opener.specs.declared.calls.Step.{Step}
+use Rattle.opener.specs.declared.calls.Step.TheVariants as step
+use Rattle.opener.specs.declared.work.Running.{Running as Call}
+use Rattle.opener.specs.declared.work.Work.{Work}
+use Rattle.opener.specs.declared.work.Work.TheVariants.{Idle, Runs}
+use Rattle.region_words.specs.Region.{Region, IsAccepted}
+use Rattle.region_words.specs.Past.{changes_of, locks_after}
+use Rattle.region_words.specs.Local.{Seated, no_account, seat_state}
+use Rattle.region_words.specs.declared.event.Event.{Event}
+use Rattle.script_lang.specs.Lines.{IsLine}
 use Rattle.script_lang.specs.declared.line.Line.{Line}
 use Rattle.script_lang.specs.declared.outcome.Outcome.{Outcome}
-use Rattle.mmkv_top.specs.declared.player.Player.{Player}
-use Rattle.mmkv_top.specs.declared.lines.Taken.{Taken}
-use Rattle.mmkv_top.specs.declared.mode.Mode.{Mode}
-use Rattle.mmkv_top.specs.declared.mode.Mode.TheVariants.{Running}
-use Rattle.mmkv_top.specs.Play.{State, at_start, Leads, EndsCall, MayBegin, Plays, IsWithin, IsRefusedIn, IsFirstRefused, answers_in}
+use Rattle.script_lang.specs.declared.outcome.Outcome.TheVariants.{Answered, Blocked, Stopped}
+use Rattle.script_lang.specs.declared.outcome.Reason.{Reason}
+use Rattle.mmkv_top.specs.declared.halt.Halt.{Halt}
+use Rattle.mmkv_top.specs.declared.halt.Halt.TheVariants as halt
 use Rattle.mmkv_top.specs.declared.limits.TheConstants.{LARGEST_COUNT, LARGEST_LINE}
-use Rattle.script_lang.specs.Lines.{IsLine}
-use Rattle.mmkv_top.specs.Plain.{IsPlain}
+use Rattle.mmkv_top.specs.State.{PlayerState}
+use Rattle.mmkv_top.specs.Ending.{ending}
+use Rattle.mmkv_top.specs.declared.ending.Ending.{Ending}
+use Rattle.script_lang.specs.Texts.{line as text_line}
+use Rattle.mmkv_top.specs.Parts.{Part, lines_of, past_of, outcomes_of, answers_in, listed, strategies, holds_of, Running, running, going_on}
+use Rattle.mmkv_top.specs.Played.{Stock, ArePlayed, AreSteps, IsAnsweredBy, IsPrinted}
+use Rattle.mmkv_top.specs.Play.{AreAnswered, IsWithin, AreLines, CanTake, IsFirstRefused, IsHalted, IsRefusedIn, not_yet}
 
-abbrev pub state_of : Player → State
-state_of p = record { mode = p.mode; changes = vec_len p.changes }
+-- the opener runs this call
+pub record Follows (c : Call) (r : Running) : Type 0 where
+  pub call : c.call ≡ r.call
+  pub moment : c.now ≡ r.now
+  pub begun : c.begun ≡ length (changes_of r.past)
 
--- a running call began after all changes, and was allowed to
-abbrev pub FitsMode : Mode → ℕ → Type 0
-FitsMode (Running now c begun) changes = (begun ≡ changes) × MayBegin c
-FitsMode _ changes = Unit {0}
+-- the opener runs the call that runs after the lines
+abbrev pub FollowsWork : Work → Option Running → Type 0
+FollowsWork Idle None = ⊤
+FollowsWork (Runs c stage) (Some r) = Follows c r
+FollowsWork _ _ = ⊥
 
--- its map is that of its changes, each of which an answer of its outcomes has made
-pub record IsPlaying (p : Player) : Type 0 where
-  pub plain : IsPlain p.map p.changes.items (answers_in p.outcomes.items)
-  pub mode : FitsMode p.mode (vec_len p.changes)
+-- The last step of a line came to this, where the events so far are these and this call ran, if any, beside so many holds.
+abbrev pub CameTo : List Event → ℕ → Option Running → Step → OpenerState → Type 0
+CameTo past held r step.Going o = FollowsWork o.work r × (o.holds ≡ held)
+CameTo past held None step.Idle o = FollowsWork o.work None × (o.holds ≡ held)
+CameTo past held (Some r) (step.Blocked holder) o =
+    FollowsWork o.work (Some r) × (o.holds ≡ held) × ((kind : LockKind) × IsLeastAgainst (locks_after past) 1 kind holder)
+CameTo past held (Some r) (step.Answered a) o = (o.work ≡ Idle) × (o.holds ≡ holds_after r.call held) × IsAnsweredBy past r 1 a
+CameTo past held (Some r) (step.Stopped why) o = (o.work ≡ Idle) × (o.holds ≡ held)
+CameTo past held _ _ o = ⊥
 
--- the line leads from the old state to the new one, and its outcomes are added
-abbrev pub Adds : Player → Player → Option Line → Type 0
-Adds old new line = (more : List Outcome) × (new.outcomes.items ≡ old.outcomes.items ++ more) × Leads (state_of old) line (state_of new) more
+-- So many steps of opener 1 were made at most, the last of them came to this, and these are their events.
+pub record Stepped (start : Region) (past : List Event) (held : ℕ) (before : Option Running) (count : ℕ) (last : Step) (made : List Event) (o : OpenerState) (s : Seated) : Type 0 where
+  pub few : length made ≤ count
+  pub own : AreSteps 1 made
+  pub idle : before ≡ None → made ≡ []
+  pub who : o.who ≡ 1
+  pub seat : s.who ≡ 1
+  pub start_is : s.region.start ≡ start
+  pub past_is : s.region.past ≡ made ++ past
+  pub steady : s.region.failing.listed ≡ []
+  pub answer : OnAnswer last (λ a. IsAnswer a s.region.start s.region.past)
+  pub came : CameTo s.region.past held (option_map (going_on made) before) last o
 
--- the running call is ended, and its outcome added
-abbrev pub Ends : ℕ → Call → ℕ → Player → Player → Type 0
-Ends now c begun old new =
-    (o : Outcome) × (new.outcomes.items ≡ old.outcomes.items ++ o ∷ []) × EndsCall now c begun (state_of old) (state_of new) o
+-- the outcome of a line whose last step of opener 1 came to this, if it has one
+abbrev pub IsOutcomeAt : Step → Option Outcome → Type 0
+IsOutcomeAt (step.Blocked holder) o = o ≡ Some (Blocked 1 holder)
+IsOutcomeAt (step.Answered a) o = o ≡ Some (Answered a)
+IsOutcomeAt (step.Stopped why) o = (r : Reason) × (o ≡ Some (Stopped 1 r)) × IsPrinted r
+IsOutcomeAt _ o = o ≡ None
 
--- the text of a line leads from the old state to the new one, and its outcomes are added
-abbrev pub AddsText : Player → Player → List ℕ → Type 0
-AddsText old new text = (length text ≤ LARGEST_LINE) × ((l : Option Line) × IsLine text l × Adds old new l)
+-- it ended the play, but wasn't refused
+abbrev pub IsNoRefusal : Halt → Type 0
+IsNoRefusal halt.Refused = ⊥
+IsNoRefusal _ = ⊤
 
--- the text of a line behind so many others is one too many, is too long, or is refused in this state
-abbrev pub IsRefusedAfter : ℕ → State → List ℕ → Type 0
-IsRefusedAfter count s text = (LARGEST_COUNT ≤ count) ⊎ (LARGEST_LINE < length text) ⊎ IsRefusedIn s text
+-- the outcome is added
+abbrev pub Notes : Step → PlayerState → PlayerState → Type 0
+Notes last old new = (o : Option Outcome) × IsOutcomeAt last o × (new ≡ record old { outcomes = old.outcomes ++ listed o })
 
--- the first lines of a script were taken, and these are left
-pub record IsTaken (texts left : List (List ℕ)) (p : Player) (count : ℕ) : Type 0 where
+-- what was answered was answered before the running call began
+abbrev pub AreEarlier : Option Running → List Answer → Type 0
+AreEarlier None answers = ⊤
+AreEarlier (Some r) answers = AreEndedBy (length (changes_of r.past)) answers
+
+-- what was answered so far, where this call runs, if any
+pub record HasAnswered (start : Region) (past : List Event) (r : Option Running) (answers : List Answer) : Type 0 where
+  pub are : AreAnswered start past answers
+  pub within : AreEndedBy (length (changes_of past)) answers
+  pub earlier : AreEarlier r answers
+
+-- the one opener after these lines
+pub record IsOpened (start : Region) (parts : List Part) (o : OpenerState) (s : Seated) : Type 0 where
+  pub one : length (strategies parts) ≡ 1
+  pub tied : Tied o (seat_state s)
+  pub who : o.who ≡ 1
+  pub follows : FollowsWork o.work (running 1 parts)
+  pub holds : o.holds ≡ holds_of 1 parts
+  pub ours : AllByRecursion (λ e. e.who ≡ 1) (past_of parts)
+  pub answered : HasAnswered start (past_of parts) (running 1 parts) (answers_in (outcomes_of parts))
+
+-- no opener yet
+pub record IsUnopened (stock left : Stock) (parts : List Part) : Type 0 where
+  pub none : strategies parts ≡ []
+  pub past : past_of parts ≡ []
+  pub outcomes : outcomes_of parts ≡ []
+  pub idle : running 1 parts ≡ None
+  pub held : holds_of 1 parts ≡ 0
+  pub full : left ≡ stock
+
+abbrev pub OpenerAt : Stock → Stock → Region → List Part → Seated → Option OpenerState → Type 0
+OpenerAt stock left start parts s None = IsUnopened stock left parts
+OpenerAt stock left start parts s (Some o) = IsOpened start parts o s
+
+-- the player has played these parts, and so much is left of the stock
+pub record IsAt (stock left : Stock) (start : Region) (parts : List Part) (p : PlayerState) : Type 0 where
+  pub start_is : p.seat.region.start ≡ start
+  pub past : p.seat.region.past ≡ past_of parts
+  pub outcomes : p.outcomes ≡ outcomes_of parts
+  pub steady : p.seat.region.failing.listed ≡ []
+  pub each : ArePlayed stock parts
+  pub opener : OpenerAt stock left start parts p.seat p.opener
+
+-- the opener is tied to the seat, or nothing has happened there yet, and the region it starts from is accepted
+abbrev pub IsReadyFor : Option OpenerState → Seated → Type 0
+IsReadyFor None s = (s.region.accounts ≡ replicate 65 no_account) × (s.region.past ≡ []) × IsAccepted s.region.start
+IsReadyFor (Some o) s = Tied o (seat_state s)
+
+abbrev pub IsReady : PlayerState → Type 0
+IsReady p = (p.seat.who ≡ 1) × IsReadyFor p.opener p.seat
+
+-- a line was taken
+abbrev pub TakesOne : Stock → Stock → Region → List Part → Option Line → PlayerState → Type 0
+TakesOne stock left start parts line new =
+    (made : List Event) × (outcome : Option Outcome) × IsAt stock left start (record { line = line; made = made; outcome = outcome } ∷ parts) new
+
+-- why it ended the play
+abbrev pub HasHalted : Stock → List Part → Option Line → Halt → Type 0
+HasHalted stock parts line halt.Refused = CanTake stock parts line → ⊥
+HasHalted stock parts line halt.Memory = ⊤
+HasHalted stock parts line _ = (l : Line) × (line ≡ Some l) × CanTake stock parts line
+
+abbrev pub Takes : {A : Type 0} → Stock → Stock → Region → List Part → Option Line → PlayerState → Result A Halt → Type 0
+Takes stock left start parts line new (Ok _) = TakesOne stock left start parts line new
+Takes stock left start parts line new (Err why) = HasHalted stock parts line why
+
+-- the first texts of a script were taken as these parts, so many
+pub record AreTaken (texts rest : List (List ℕ)) (parts : List Part) (count : ℕ) : Type 0 where
   pub front : List (List ℕ)
-  pub parts : texts ≡ front ++ left
+  pub are : texts ≡ front ++ rest
   pub within : IsWithin front
-  pub played : Plays at_start front (state_of p) p.outcomes.items
+  pub lines : AreLines front (lines_of parts)
   pub counted : count ≡ length front
-  pub few : vec_len p.changes ≤ count
 
--- all lines were taken, or the next one is the first that is refused
-abbrev pub IsTakenToEnd : List (List ℕ) → Player → Taken → Type 0
-IsTakenToEnd texts p t = MatchBool t.refused (IsFirstRefused texts false (t.count + 1)) (IsTaken texts [] p t.count)
+-- so many texts were taken, and these are left
+pub record IsTaken (stock left : Stock) (start : Region) (texts rest : List (List ℕ)) (p : PlayerState) (count : ℕ) : Type 0 where
+  pub parts : List Part
+  pub taken : AreTaken texts rest parts count
+  pub at : IsAt stock left start parts p
+
+-- the text of a line behind so many others is one too many, is too long, or names nothing that can be done
+abbrev pub IsRefusedAfter : Stock → ℕ → List Part → List ℕ → Type 0
+IsRefusedAfter stock count parts text = (LARGEST_COUNT ≤ count) ⊎ (LARGEST_LINE < length text) ⊎ IsRefusedIn stock parts text
+
+-- the text of a line behind so many others was taken
+pub record TakesText (stock left : Stock) (start : Region) (parts : List Part) (count : ℕ) (text : List ℕ) (new : PlayerState) : Type 0 where
+  pub few : count < LARGEST_COUNT
+  pub short : length text ≤ LARGEST_LINE
+  pub named : Option Line
+  pub is : IsLine text named
+  pub one : TakesOne stock left start parts named new
+
+-- why the text of a line ended the play
+abbrev pub TextHalts : Stock → List Part → ℕ → List ℕ → Halt → Type 0
+TextHalts stock parts count text halt.Refused = IsRefusedAfter stock count parts text
+TextHalts stock parts count text halt.Memory = ⊤
+TextHalts stock parts count text _ = (l : Line) × IsLine text (Some l) × CanTake stock parts (Some l)
+
+abbrev pub TakesOrHalts : {A : Type 0} → Stock → Stock → Region → List Part → ℕ → List ℕ → PlayerState → Result A Halt → Type 0
+TakesOrHalts stock left start parts count text new (Ok _) = TakesText stock left start parts count text new
+TakesOrHalts stock left start parts count text new (Err why) = TextHalts stock parts count text why
+
+-- the line of this number ended the play
+abbrev pub HaltsAt : Stock → Region → List (List ℕ) → Bool → ℕ → Halt → Type 0
+HaltsAt stock start texts beyond number halt.Refused = IsFirstRefused stock start texts beyond number
+HaltsAt stock start texts beyond number halt.Memory = ⊤
+HaltsAt stock start texts beyond number _ = IsHalted stock start texts number
+
+-- the ending that goes with why a line of this number ended the play
+abbrev pub IsEndingAt : ℕ → Halt → Ending → Type 0
+IsEndingAt number halt.Refused e = e ≡ ending 9 (text_line (codes "script" ∷ decimal number ∷ []))
+IsEndingAt number halt.JournalFull e = e ≡ ending 16 (text_line (codes "journal" ∷ decimal number ∷ []))
+IsEndingAt number halt.NotWhole e = e ≡ not_yet
+IsEndingAt number halt.Memory e = ⊥

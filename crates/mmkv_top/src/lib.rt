@@ -4,9 +4,9 @@
 mod command;
 mod dump;
 mod ending;
+mod halt;
 mod limits;
 mod lines;
-mod mode;
 mod play;
 #[cfg(test)]
 mod play_tests;
@@ -21,8 +21,7 @@ mod tests;
 mod top;
 
 pub use ending::Status;
+pub use halt::{Halt, Halted};
 pub use limits::{LARGEST_COUNT, LARGEST_LINE};
-pub use lines::Taken;
-pub use mode::Mode;
 pub use player::Player;
 pub use top::run;

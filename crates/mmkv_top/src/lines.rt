@@ -1,46 +1,43 @@
 // The lines of a script, taken one after another.
-ghost use Rattle.std.specs.Prelude.{◌≡◌, ◌+◌, ◌<◌, ◌≤◌, ◌^◌, [], OnOk, IfOk, vec_len};
-ghost use Rattle.std.specs.Bool.{OnTrue, OnFalse};
-ghost use Rattle.mmkv_top.specs.Play.{at_start, without_feed, texts_of};
-ghost use Rattle.mmkv_top.specs.Player.{state_of, IsPlaying, AddsText, IsRefusedAfter, IsTakenToEnd};
+ghost use Rattle.std.specs.Prelude.{◌≡◌, [], List, false, IfOk, IfErr, OnOk};
+ghost use Rattle.region_words.specs.Region.{Region};
+ghost use Rattle.mmkv_top.specs.Parts.{Part};
+ghost use Rattle.mmkv_top.specs.Played.{Stock, stock_of};
+ghost use Rattle.mmkv_top.specs.Play.{texts_of, without_feed};
+ghost use Rattle.mmkv_top.specs.Player.{IsReady, IsAt, IsTaken, HaltsAt, TakesOrHalts};
 
+use crate::halt::{Halt, Halted};
 use crate::limits::{LARGEST_COUNT, LARGEST_LINE};
 use crate::player::Player;
 use bstr::ByteSlice;
-use expiring_map::Memory;
+use handlers::HandlerStock;
 use script_lang::{LineStop, read_line};
 use std::alloc::Global;
 
-/// How many lines of a script were taken, and whether the next one is refused.
-#[derive(Clone, Copy, Debug, PartialEq, Eq)]
-pub struct Taken {
-    pub(crate) count: usize,
-    pub(crate) refused: bool,
-}
-
-/// Takes the lines of a script up to the first that is refused.
-pub(crate) fn take_lines(alloc: Global, player: &mut Player, script: &[u8]) -> Result<Taken, Memory>
-    requires playing { IsPlaying player.old }
-    requires start { state_of player.old ≡ at_start }
-    requires outcomes { player.old.outcomes.items ≡ [] }
-    ensures playing { OnOk result (IsPlaying player.new) }
-    ensures taken { IfOk result (IsTakenToEnd (texts_of script.now) player.new) }
-    ensures few { IfOk result (λ t. t.count ≤ LARGEST_COUNT) }
+/// Takes the lines of a script up to one that ends the play. How many they are.
+pub(crate) fn take_lines(
+    alloc: Global,
+    player: &mut Player,
+    handlers: &mut HandlerStock,
+    script: &[u8],
+) -> Result<usize, Halted>
+    requires ready { IsReady player.old }
+    requires at { IsAt (stock_of handlers.old) (stock_of handlers.old) player.old.seat.region.start [] player.old }
+    ensures ready { OnOk result (IsReady player.new) }
+    ensures taken { IfOk result (IsTaken (stock_of handlers.old) (stock_of handlers.new) player.old.seat.region.start (texts_of script.now) [] player.new) }
+    ensures halted { IfErr result (λ h. HaltsAt (stock_of handlers.old) player.old.seat.region.start (texts_of script.now) false h.number h.why) }
 {
     let mut count = 0;
     for line in script.lines_with_terminator() {
-        if !take_text(alloc, player, count, text_of(line))? {
-            return Ok(Taken {
-                count,
-                refused: true,
+        if let Err(why) = take_text(alloc, player, handlers, count, text_of(line)) {
+            return Err(Halted {
+                number: count + 1,
+                why,
             });
         }
         count += 1;
     }
-    Ok(Taken {
-        count,
-        refused: false,
-    })
+    Ok(count)
 }
 
 // What stands before a line's feed.
@@ -54,21 +51,25 @@ fn text_of(line: &[u8]) -> &[u8]
     }
 }
 
-// Takes the line behind so many others. False where it is refused.
-fn take_text(alloc: Global, player: &mut Player, count: usize, text: &[u8]) -> Result<bool, Memory>
-    requires playing { IsPlaying player.old }
-    requires few { vec_len player.old.changes < 2 ^ 31 }
-    ensures playing { OnOk result (IsPlaying player.new) }
-    ensures few { OnOk result (vec_len player.new.changes ≤ vec_len player.old.changes + 1) }
-    ensures taken { IfOk result (λ taken. OnTrue taken ((count < LARGEST_COUNT) × AddsText player.old player.new text.now)) }
-    ensures refused { IfOk result (λ taken. OnFalse taken (IsRefusedAfter count (state_of player.old) text.now)) }
+// Takes the line behind so many others.
+fn take_text(
+    alloc: Global,
+    player: &mut Player,
+    handlers: &mut HandlerStock,
+    count: usize,
+    text: &[u8],
+) -> Result<(), Halt>
+    requires ready { IsReady player.old }
+    ensures ready { OnOk result (IsReady player.new) }
+    ensures taken { (stock : Stock) (start : Region) (parts : List Part) → IsAt stock (stock_of handlers.old) start parts player.old →
+        TakesOrHalts stock (stock_of handlers.new) start parts count text.now player.new result }
 {
     if count >= LARGEST_COUNT || text.len() > LARGEST_LINE {
-        return Ok(false);
+        return Err(Halt::Refused);
     }
     match read_line(alloc, text) {
-        Ok(line) => player.take(line),
-        Err(LineStop::Bad) => Ok(false),
-        Err(LineStop::Memory) => Err(Memory),
+        Ok(line) => player.take(handlers, line),
+        Err(LineStop::Bad) => Err(Halt::Refused),
+        Err(LineStop::Memory) => Err(Halt::Memory),
     }
 }

@@ -1,33 +1,43 @@
 // The command `play`.
-ghost use Rattle.std.specs.Prelude.{◌≡◌, ◌⊎◌, ℕ, ◌≤◌, ◌++◌, ◌∷◌, [], List, IfOk, length, take, flat_map, false, true, codes, decimal};
+ghost use Rattle.std.specs.Prelude.{◌≡◌, ◌⊎◌, ℕ, ◌≤◌, ◌++◌, ◌∷◌, [], List, IfOk, OnOk, flat_map, length, replicate, take, false, true, codes, decimal};
 ghost use Rattle.region_words.specs.Outside.{Rose};
-ghost use Rattle.region_words.specs.Region.{region_of};
+ghost use Rattle.region_words.specs.Region.{IsAccepted};
+ghost use Rattle.region_words.specs.Past.{region_after, changes_of};
+ghost use Rattle.region_words.specs.Local.{no_account};
 ghost use Rattle.region_words.specs.Stores.{IsId};
-ghost use Rattle.script_lang.specs.Texts.{line, outcome_line, changes_text};
+ghost use Rattle.script_lang.specs.Texts.{line, outcome_line, run_text};
 ghost use Rattle.mmkv_top.specs.Ending.{IsDueOr, ending};
-ghost use Rattle.mmkv_top.specs.Due.{IsAmong, play_statuses, IsPlay, IsPlayOf, IsFreshPlay, IsEndingOf, region_in};
-ghost use Rattle.mmkv_top.specs.Play.{IsPlayed, IsScriptRefused, EndsLines, texts_of};
+ghost use Rattle.mmkv_top.specs.Due.{IsAmong, play_statuses, IsPlay, IsPlayOf, IsInputPlay, IsEndingOf, region_in};
+ghost use Rattle.mmkv_top.specs.Played.{stock_of};
+ghost use Rattle.mmkv_top.specs.Play.{IsPlayed, IsEndedEarly, EndsLines, not_yet, texts_of};
+ghost use Rattle.mmkv_top.specs.Player.{IsAt, IsReady, IsEndingAt};
 
 use crate::ending::Ending;
+use crate::halt::{Halt, Halted};
 use crate::lines::take_lines;
 use crate::player::Player;
 use crate::refusals::{refused, unbrought};
 use expiring_map::{Bytes, Memory};
-use meta_record::{check_record, load_word, record_of};
-use region_words::{Brought, Shelf, ShelfStop, Source, fill_up};
-use script_lang::{ScriptStop, changes_text, outcome_text, read_script};
+use handlers::HandlerStock;
+use meta_record::Shown;
+use region_words::{
+    Brought, LARGEST_DATA, LARGEST_META, LocalRegion, RegionStop, Shelf, ShelfStop, Source,
+    a_region_stays_a_region, shown,
+};
+use script_lang::{Outcome, ScriptStop, changes_text, outcome_text, read_script, region_text};
 use std::alloc::Global;
 
-/// Plays a script from the input, for one opener over a plain map. The store has to be a fresh one.
+/// Plays a script from the input, for one opener at a copy of a store. The store has to show a whole image.
 pub(crate) fn play<D: Shelf, S: Source>(
     alloc: Global,
     shelf: &mut D,
     id: &[u8],
     input: &mut S,
+    handlers: &mut HandlerStock,
 ) -> Ending
     requires { IsId id.now }
     ensures due { IsDueOr (Rose (D.faults shelf.old) (D.faults shelf.new))
-        (IsPlay (S.left input.old) (S.left input.new) (Rose (S.faults input.old) (S.faults input.new)) (D.stores shelf.old id.now)) result }
+        (IsPlay (stock_of handlers.old) (S.left input.old) (S.left input.new) (Rose (S.faults input.old) (S.faults input.new)) (D.stores shelf.old id.now)) result }
     ensures same { (other : List ℕ) → D.stores shelf.new other ≡ D.stores shelf.old other }
     ensures statuses { IsAmong (5 ∷ 8 ∷ play_statuses) result.status }
     ensures fault { result.status ≡ 5 → Rose (D.faults shelf.old) (D.faults shelf.new) }
@@ -35,7 +45,7 @@ pub(crate) fn play<D: Shelf, S: Source>(
     ensures clean { result.status ≡ 0 → D.faults shelf.new ≡ D.faults shelf.old }
 {
     let brought = shelf.bring(id);
-    match play_brought(alloc, brought, input) {
+    match play_brought(alloc, brought, input, handlers) {
         Ok(ending) => ending,
         Err(Memory) => Ending::no_memory(alloc),
     }
@@ -45,76 +55,113 @@ fn play_brought<S: Source>(
     alloc: Global,
     brought: Result<Brought, ShelfStop>,
     input: &mut S,
+    handlers: &mut HandlerStock,
 ) -> Result<Ending, Memory>
+    requires data { IfOk brought (λ b. length b.body ≤ LARGEST_DATA) }
+    requires meta { IfOk brought (λ b. length b.meta ≤ LARGEST_META) }
     ensures { IfOk result (λ e. IsEndingOf
-        (IsPlayOf (S.left input.old) (S.left input.new) (Rose (S.faults input.old) (S.faults input.new))) brought e) }
+        (IsPlayOf (stock_of handlers.old) (S.left input.old) (S.left input.new) (Rose (S.faults input.old) (S.faults input.new))) brought e) }
 {
     match brought {
-        Ok(brought) => play_files(alloc, brought, input),
+        Ok(brought) => play_files(alloc, brought, input, handlers),
         Err(stop) => unbrought(alloc, stop),
     }
 }
 
-fn play_files<S: Source>(alloc: Global, brought: Brought, input: &mut S) -> Result<Ending, Memory>
-    ensures { IfOk result (λ e. IsPlayOf (S.left input.old) (S.left input.new)
-        (Rose (S.faults input.old) (S.faults input.new)) (region_in brought.body brought.meta) e) }
+fn play_files<S: Source>(
+    alloc: Global,
+    brought: Brought,
+    input: &mut S,
+    handlers: &mut HandlerStock,
+) -> Result<Ending, Memory>
+    requires data { length brought.body ≤ LARGEST_DATA }
+    requires meta { length brought.meta ≤ LARGEST_META }
+    ensures { IfOk result (IsPlayOf (stock_of handlers.old) (S.left input.old) (S.left input.new)
+        (Rose (S.faults input.old) (S.faults input.new)) (region_in brought.body brought.meta)) }
 {
-    let body = fill_up(brought.body.into_vec())?;
-    let meta = fill_up(brought.meta.into_vec())?;
-    play_region(alloc, &body, &meta, input)
+    let Brought { body, meta } = brought;
+    match LocalRegion::new(alloc, body.into_vec(), meta.into_vec()) {
+        Ok(region) => play_region(alloc, region, input, handlers),
+        Err(RegionStop::SizeRefused(_)) => unreachable!(),
+        Err(RegionStop::Memory) => Err(Memory),
+    }
 }
 
 fn play_region<S: Source>(
     alloc: Global,
-    body: &[u8],
-    meta: &[u8],
+    region: LocalRegion,
     input: &mut S,
+    handlers: &mut HandlerStock,
 ) -> Result<Ending, Memory>
-    requires data { 4 ≤ length body.now }
-    requires meta { 112 ≤ length meta.now }
-    ensures { IfOk result (λ e. IsPlayOf (S.left input.old) (S.left input.new)
-        (Rose (S.faults input.old) (S.faults input.new)) (region_of body.now meta.now) e) }
+    requires past { region.past ≡ [] }
+    requires new { region.accounts ≡ replicate 65 no_account }
+    requires steady { region.failing.listed ≡ [] }
+    ensures { IfOk result (IsPlayOf (stock_of handlers.old) (S.left input.old) (S.left input.new)
+        (Rose (S.faults input.old) (S.faults input.new)) region.start) }
 {
-    let rec = record_of(meta);
-    if let Err(fault) = check_record(&rec, load_word(body, 0)) {
-        return refused(alloc, fault);
+    region.journal();
+    match shown(region.data_bytes(), region.meta_bytes()) {
+        Ok(Shown::Whole(_)) => play_input(alloc, &mut Player::new(alloc, region), input, handlers),
+        Ok(_) => not_yet(alloc),
+        Err(fault) => refused(alloc, fault),
     }
-    if rec.version != 0 {
-        return Ending::of_text(alloc, 17, "not yet\n");
-    }
-    play_fresh(alloc, input)
 }
 
-fn play_fresh<S: Source>(alloc: Global, input: &mut S) -> Result<Ending, Memory>
-    ensures { IfOk result (IsFreshPlay (S.left input.old) (S.left input.new) (Rose (S.faults input.old) (S.faults input.new))) }
+fn play_input<S: Source>(
+    alloc: Global,
+    player: &mut Player,
+    input: &mut S,
+    handlers: &mut HandlerStock,
+) -> Result<Ending, Memory>
+    requires ready { IsReady player.old }
+    requires at { IsAt (stock_of handlers.old) (stock_of handlers.old) player.old.seat.region.start [] player.old }
+    requires accepted { IsAccepted player.old.seat.region.start }
+    ensures { IfOk result (IsInputPlay (stock_of handlers.old) player.old.seat.region.start (S.left input.old) (S.left input.new)
+        (Rose (S.faults input.old) (S.faults input.new))) }
 {
     match read_script(alloc, input) {
-        Ok(script) => play_script(alloc, &script),
-        Err(ScriptStop::TooLong(front)) => play_cut(alloc, front.as_slice()),
+        Ok(script) => play_script(alloc, player, handlers, &script),
+        Err(ScriptStop::TooLong(front)) => play_cut(alloc, player, handlers, front.as_slice()),
         Err(ScriptStop::ReadFault) => Ending::of_text(alloc, 3, "read fault\n"),
         Err(ScriptStop::Memory) => Err(Memory),
     }
 }
 
-fn play_script(alloc: Global, script: &[u8]) -> Result<Ending, Memory>
-    ensures { IfOk result (λ e. IsPlayed (texts_of script.now) e ⊎ IsScriptRefused (texts_of script.now) false e) }
+fn play_script(
+    alloc: Global,
+    player: &mut Player,
+    handlers: &mut HandlerStock,
+    script: &[u8],
+) -> Result<Ending, Memory>
+    requires ready { IsReady player.old }
+    requires at { IsAt (stock_of handlers.old) (stock_of handlers.old) player.old.seat.region.start [] player.old }
+    requires accepted { IsAccepted player.old.seat.region.start }
+    ensures { IfOk result (λ e. IsPlayed (stock_of handlers.old) player.old.seat.region.start (texts_of script.now) e
+        ⊎ IsEndedEarly (stock_of handlers.old) player.old.seat.region.start (texts_of script.now) false e) }
 {
-    let mut player = Player::new(alloc);
-    let taken = take_lines(alloc, &mut player, script)?;
-    if taken.refused {
-        return script_refused(alloc, taken.count + 1);
+    match take_lines(alloc, player, handlers, script) {
+        Ok(_) => played(alloc, player),
+        Err(halted) => halted_at(alloc, halted),
     }
-    played(alloc, &player)
 }
 
-// The script has a byte too many. The line that holds it is refused, if none before it is.
-fn play_cut(alloc: Global, script: &[u8]) -> Result<Ending, Memory>
-    ensures { IfOk result (λ e. (size : ℕ) × EndsLines script.now size × IsScriptRefused (texts_of (take size script.now)) true e) }
+// The script has a byte too many. The line that holds it is refused, if none before it ends the play.
+fn play_cut(
+    alloc: Global,
+    player: &mut Player,
+    handlers: &mut HandlerStock,
+    script: &[u8],
+) -> Result<Ending, Memory>
+    requires ready { IsReady player.old }
+    requires at { IsAt (stock_of handlers.old) (stock_of handlers.old) player.old.seat.region.start [] player.old }
+    ensures { IfOk result (λ e. (size : ℕ) × EndsLines script.now size
+        × IsEndedEarly (stock_of handlers.old) player.old.seat.region.start (texts_of (take size script.now)) true e) }
 {
     let size = end_of_lines(script);
-    let mut player = Player::new(alloc);
-    let taken = take_lines(alloc, &mut player, &script[..size])?;
-    script_refused(alloc, taken.count + 1)
+    match take_lines(alloc, player, handlers, &script[..size]) {
+        Ok(count) => script_refused(alloc, count + 1),
+        Err(halted) => halted_at(alloc, halted),
+    }
 }
 
 // How many bytes stand up to the last line feed.
@@ -128,24 +175,61 @@ fn end_of_lines(script: &[u8]) -> usize
     size
 }
 
+// The ending of a play that a line ended.
+fn halted_at(alloc: Global, halted: Halted) -> Result<Ending, Memory>
+    ensures { IfOk result (IsEndingAt halted.number halted.why) }
+{
+    match halted.why {
+        Halt::Refused => script_refused(alloc, halted.number),
+        Halt::JournalFull => journal_full(alloc, halted.number),
+        Halt::NotWhole => not_yet(alloc),
+        Halt::Memory => Err(Memory),
+    }
+}
+
 fn script_refused(alloc: Global, number: usize) -> Result<Ending, Memory>
     ensures { IfOk result (λ e. e ≡ ending 9 (line (codes "script" ∷ decimal number ∷ []))) }
 {
     Ok(Ending::of_string(9, format!(in alloc; "script {number}\n")?))
 }
 
-// The text of all outcomes and changes.
-fn played(alloc: Global, player: &Player) -> Result<Ending, Memory>
-    ensures { IfOk result (λ e. e ≡ ending 0
-        (flat_map outcome_line player.now.outcomes.items ++ changes_text player.now.changes.items)) }
+fn journal_full(alloc: Global, number: usize) -> Result<Ending, Memory>
+    ensures { IfOk result (λ e. e ≡ ending 16 (line (codes "journal" ∷ decimal number ∷ []))) }
 {
+    Ok(Ending::of_string(16, format!(in alloc; "journal {number}\n")?))
+}
+
+fn not_yet(alloc: Global) -> Result<Ending, Memory>
+    ensures { IfOk result (λ e. e ≡ not_yet) }
+{
+    Ending::of_text(alloc, 17, "not yet\n")
+}
+
+// The text of all outcomes and changes, and of the region that is left.
+fn played(alloc: Global, player: &Player) -> Result<Ending, Memory>
+    requires { IsAccepted player.now.seat.region.start }
+    ensures { IfOk result (λ e. e ≡ ending 0 (run_text player.now.outcomes
+        (changes_of player.now.seat.region.past) (region_after player.now.seat.region.start player.now.seat.region.past))) }
+{
+    a_region_stays_a_region();
+    let region = player.seat.region();
+    region.journal();
     let mut text = Vec::new(alloc);
-    for outcome in &player.outcomes {
-        outcome_text(alloc, outcome, &mut text)?;
-    }
-    changes_text(alloc, &player.changes, &mut text)?;
+    outcomes_text(alloc, &player.outcomes, &mut text)?;
+    changes_text(alloc, region.changes(alloc)?.as_slice(), &mut text)?;
+    region_text(alloc, region.data_bytes(), region.meta_bytes(), &mut text)?;
     Ok(Ending {
         status: 0,
         text: Bytes::of_vec(text),
     })
+}
+
+// Appends the line of each outcome.
+fn outcomes_text(alloc: Global, outcomes: &[Outcome], out: &mut Vec<u8>) -> Result<(), Memory>
+    ensures { OnOk result (out.new.items ≡ out.old.items ++ flat_map outcome_line outcomes.now) }
+{
+    for outcome in outcomes {
+        outcome_text(alloc, outcome, out)?;
+    }
+    Ok(())
 }

@@ -1,296 +1,222 @@
-// A script's opener over a plain map.
-ghost use Rattle.std.specs.Prelude.{◌≡◌, ◌↔◌, IsTrue, IfOk};
-ghost use Rattle.change_log.specs.History.{reply_in};
-ghost use Rattle.mmkv_top.specs.Play.{MayBegin, NeedsExpiry};
-ghost use Rattle.mmkv_top.specs.Answers.{answer_to};
+// A script's opener at a region in memory.
+ghost use Rattle.std.specs.Prelude.{◌≡◌, ◌↔◌, [], IsTrue, IfOk, IfErr, List, Option, None, ℕ, false};
+ghost use Rattle.opener.specs.Calls.{IsBuilt};
+ghost use Rattle.opener.specs.Opener.{Tied};
+ghost use Rattle.opener.specs.declared.work.Work.TheVariants as Work;
+ghost use Rattle.region_words.specs.Region.{Region, IsAccepted};
+ghost use Rattle.region_words.specs.Local.{seat_state};
+ghost use Rattle.region_words.specs.declared.event.Event.{Event};
+ghost use Rattle.mmkv_top.specs.Parts.{Running};
+ghost use Rattle.mmkv_top.specs.Played.{IsPrinted};
+ghost use Rattle.mmkv_top.specs.Player.{Stepped, IsOutcomeAt, IsNoRefusal};
 
-use crate::mode::Mode;
-use change_log::{Act, Answer, Call, Change, Reply};
-use expiring_map::{Bytes, ExpiringMap, Memory, Pair};
-use handlers::Strategy;
+use crate::halt::Halt;
+use change_log::Call;
+use expiring_map::Memory;
+use handlers::{Handler, HandlerStock, Strategy};
+use opener::{Opener, Step, Stop};
+use region_words::{LocalRegion, LocalSeat, Share};
 use script_lang::{Line, Outcome, Reason};
 use std::alloc::Global;
-use std::mem;
+use std::marker::Model;
 
-/// What came of a script's lines so far.
+// The number of the one opener.
+const OPENER: u32 = 1;
+
+/// The region of a script, its opener once it is opened, and what came of the lines so far.
 #[derive(Drop)]
 pub struct Player {
     pub(crate) alloc: Global,
-    pub(crate) map: ExpiringMap,
-    pub(crate) changes: Vec<Change>,
+    pub(crate) seat: LocalSeat,
+    pub(crate) opener: Option<Opener>,
     pub(crate) outcomes: Vec<Outcome>,
-    pub(crate) mode: Mode,
+}
+
+impl Model for Player {
+    ghost use Rattle.std.specs.Coded.{codes};
+    ghost use Rattle.expiring_map.specs.contracts.map.ExpiringMap as map;
+    ghost use Rattle.mmkv_top.specs.State.{PlayerState};
+
+    ghost Value = { PlayerState };
+
+    ghost coded = { Prim.hlevel (codes, map.the_row.coded) };
+
+    ghost view = { λ p. record { seat = p.seat; opener = p.opener; outcomes = p.outcomes.items } };
 }
 
 impl Player {
-    ghost use Rattle.std.specs.Prelude.{◌≡◌, ◌≢◌, ◌+◌, ◌<◌, ◌≤◌, ◌++◌, ◌∷◌, [], ◌^◌, OnOk, IfOk, List, vec_len};
-    ghost use Rattle.std.specs.Bool.{OnTrue, OnFalse};
-    ghost use Rattle.script_lang.specs.declared.outcome.Outcome.{Outcome as Ended};
-    ghost use Rattle.mmkv_top.specs.Play.{State, Leads, at_start};
-    ghost use Rattle.mmkv_top.specs.Player.{state_of, IsPlaying, Adds, Ends};
-    ghost use Rattle.mmkv_top.specs.Play.{MayBegin};
+    ghost use Rattle.std.specs.Prelude.{◌≡◌, [], OnOk, IfErr, List, Some, replicate};
+    ghost use Rattle.region_words.specs.Region.{Region, IsAccepted};
+    ghost use Rattle.region_words.specs.Local.{no_account};
+    ghost use Rattle.mmkv_top.specs.Parts.{Part};
+    ghost use Rattle.mmkv_top.specs.Played.{Stock, stock_of};
+    ghost use Rattle.mmkv_top.specs.Player.{IsAt, IsReady, Takes, Notes, IsNoRefusal};
 
-    /// No line was taken yet, and the map is empty.
-    pub(crate) fn new(alloc: Global) -> Player
-        ensures start { state_of result ≡ at_start }
-        ensures playing { IsPlaying result }
-        ensures outcomes { result.outcomes.items ≡ [] }
+    /// No line was taken yet.
+    pub(crate) fn new(alloc: Global, region: LocalRegion) -> Player
+        requires past { region.past ≡ [] }
+        requires new { region.accounts ≡ replicate 65 no_account }
+        requires steady { region.failing.listed ≡ [] }
+        requires accepted { IsAccepted region.start }
+        ensures ready { IsReady result }
+        ensures region { result.seat.region ≡ region }
+        ensures at { (stock : Stock) → IsAt stock stock region.start [] result }
     {
         Player {
             alloc,
-            map: ExpiringMap::new(alloc),
-            changes: Vec::new(alloc),
+            seat: region.seat(OPENER),
+            opener: None,
             outcomes: Vec::new(alloc),
-            mode: Mode::Unopened,
         }
     }
 
-    /// Does what a line names. False where it is refused.
-    pub(crate) fn take(&mut self, line: Option<Line>) -> Result<bool, Memory>
-        requires playing { IsPlaying self.old }
-        requires few { vec_len self.old.changes < 2 ^ 31 }
-        ensures playing { OnOk result (IsPlaying self.new) }
-        ensures few { OnOk result (vec_len self.new.changes ≤ vec_len self.old.changes + 1) }
-        ensures taken { IfOk result (λ taken. OnTrue taken (Adds self.old self.new line)) }
-        ensures refused { IfOk result (λ taken. OnFalse taken ((t : State) (more : List Ended) → Leads (state_of self.old) line t more → ⊥)) }
+    /// Does what a line names. So far there is one opener, which doesn't die and leaves the expiry as it is.
+    pub(crate) fn take(
+        &mut self,
+        handlers: &mut HandlerStock,
+        line: Option<Line>,
+    ) -> Result<(), Halt>
+        requires ready { IsReady self.old }
+        ensures ready { OnOk result (IsReady self.new) }
+        ensures taken { (stock : Stock) (start : Region) (parts : List Part) → IsAt stock (stock_of handlers.old) start parts self.old → Takes stock (stock_of handlers.new) start parts line self.new result }
     {
         match line {
-            None => Ok(true),
-            Some(Line::Open(Strategy::Leave)) => Ok(self.open()),
-            Some(Line::Begin { who, now, call }) => Ok(self.begin(who, now, call)),
+            None => Ok(()),
+            Some(Line::Open(strategy)) => self.open(handlers, strategy),
+            Some(Line::Begin { who, now, call }) => self.begin(who, now, call),
             Some(Line::Step { who, count }) => self.step(who, count),
-            Some(_) => Ok(false),
+            Some(Line::Die { .. } | Line::Next { .. }) => Err(Halt::Refused),
         }
     }
 
-    fn open(&mut self) -> bool
-        requires playing { IsPlaying self.old }
-        ensures playing { IsPlaying self.new }
-        ensures few { vec_len self.new.changes ≡ vec_len self.old.changes }
-        ensures taken { OnTrue result (Adds self.old self.new (Some (Line.Open Strategy.Leave))) }
-        ensures refused { OnFalse result ((t : State) (more : List Ended) → Leads (state_of self.old) (Some (Line.Open Strategy.Leave)) t more → ⊥) }
+    fn open(&mut self, handlers: &mut HandlerStock, strategy: Strategy) -> Result<(), Halt>
+        requires ready { IsReady self.old }
+        ensures ready { OnOk result (IsReady self.new) }
+        ensures taken { (stock : Stock) (start : Region) (parts : List Part) → IsAt stock (stock_of handlers.old) start parts self.old → Takes stock (stock_of handlers.new) start parts (Some (Line.Open strategy)) self.new result }
     {
-        if !matches!(self.mode, Mode::Unopened) {
-            return false;
+        if self.opener.is_some() {
+            return Err(Halt::Refused);
         }
-        self.mode = Mode::Resting;
-        true
-    }
-
-    fn begin(&mut self, who: u32, now: u32, call: Call) -> bool
-        requires playing { IsPlaying self.old }
-        requires few { vec_len self.old.changes < 2 ^ 31 }
-        ensures playing { IsPlaying self.new }
-        ensures few { vec_len self.new.changes ≡ vec_len self.old.changes }
-        ensures taken { OnTrue result (Adds self.old self.new (Some (Line.Begin who now call))) }
-        ensures refused { OnFalse result ((t : State) (more : List Ended) → Leads (state_of self.old) (Some (Line.Begin who now call)) t more → ⊥) }
-    {
-        if who != 1 || !may_begin(&call) || !matches!(self.mode, Mode::Resting) {
-            return false;
-        }
-        self.mode = Mode::Running {
-            now,
-            call,
-            begun: self.changes.len() as u32,
+        let Some(handler) = handlers.draw(strategy) else {
+            return Err(Halt::Refused);
         };
-        true
-    }
-
-    fn step(&mut self, who: u32, count: u32) -> Result<bool, Memory>
-        requires playing { IsPlaying self.old }
-        requires few { vec_len self.old.changes < 2 ^ 31 }
-        ensures playing { OnOk result (IsPlaying self.new) }
-        ensures few { OnOk result (vec_len self.new.changes ≤ vec_len self.old.changes + 1) }
-        ensures taken { IfOk result (λ taken. OnTrue taken (Adds self.old self.new (Some (Line.Step who count)))) }
-        ensures refused { IfOk result (λ taken. OnFalse taken ((t : State) (more : List Ended) → Leads (state_of self.old) (Some (Line.Step who count)) t more → ⊥)) }
-    {
-        if who != 1 {
-            return Ok(false);
-        }
-        match mem::replace(&mut self.mode, Mode::Resting) {
-            Mode::Unopened => {
-                self.mode = Mode::Unopened;
-                Ok(false)
-            }
-            Mode::Resting => Ok(true),
-            Mode::Running { now, call, begun } => {
-                self.end(now, call, begun)?;
-                Ok(true)
-            }
-        }
-    }
-
-    // Ends the running call, which its mode no longer names.
-    fn end(&mut self, now: u32, call: Call, begun: u32) -> Result<(), Memory>
-        requires playing { IsPlaying self.old }
-        requires resting { self.old.mode ≡ Mode.Resting }
-        requires begun { begun ≡ vec_len self.old.changes }
-        requires may { MayBegin call }
-        requires few { vec_len self.old.changes < 2 ^ 31 }
-        ensures playing { OnOk result (IsPlaying self.new) }
-        ensures few { OnOk result (vec_len self.new.changes ≤ vec_len self.old.changes + 1) }
-        ensures ended { OnOk result (Ends now call begun self.old self.new) }
-    {
-        if needs_expiry(&call) {
-            return self.stop();
-        }
-        match call {
-            Call::Get { key } => self.get(now, key, begun),
-            Call::Put {
-                key,
-                value,
-                seconds,
-            } => self.put(now, key, value, begun),
-            Call::Remove { key } => self.remove(now, key, begun),
-            _ => unreachable!(),
-        }
-    }
-
-    fn stop(&mut self) -> Result<(), Memory>
-        requires playing { IsPlaying self.old }
-        requires resting { self.old.mode ≡ Mode.Resting }
-        ensures playing { OnOk result (IsPlaying self.new) }
-        ensures state { OnOk result (state_of self.new ≡ state_of self.old) }
-        ensures ended { OnOk result (self.new.outcomes.items ≡ self.old.outcomes.items ++ Outcome.Stopped 1 Reason.ExpiryOff ∷ []) }
-    {
-        self.outcomes.push(Outcome::Stopped {
-            who: 1,
-            reason: Reason::ExpiryOff,
-        })?;
+        self.seat.admit(OPENER)?;
+        self.opener = Some(opener_at(self.alloc, &self.seat, handler));
         Ok(())
     }
 
-    fn get(&mut self, now: u32, key: Bytes, begun: u32) -> Result<(), Memory>
-        requires playing { IsPlaying self.old }
-        requires resting { self.old.mode ≡ Mode.Resting }
-        requires begun { begun ≡ vec_len self.old.changes }
-        ensures playing { OnOk result (IsPlaying self.new) }
-        ensures few { OnOk result (vec_len self.new.changes ≡ vec_len self.old.changes) }
-        ensures ended { OnOk result (Ends now (Call.Get key) begun self.old self.new) }
+    fn begin(&mut self, who: u32, now: u32, call: Call) -> Result<(), Halt>
+        requires ready { IsReady self.old }
+        ensures ready { OnOk result (IsReady self.new) }
+        ensures taken { (stock left : Stock) (start : Region) (parts : List Part) → IsAt stock left start parts self.old → Takes stock left start parts (Some (Line.Begin who now call)) self.new result }
     {
-        let reply = reply_to(self.alloc, &self.map, key.as_slice(), now)?;
-        let answer = answer_to(now, Call::Get { key }, begun, begun, reply);
-        self.outcomes.push(Outcome::Answered(answer))?;
-        Ok(())
-    }
-
-    fn put(&mut self, now: u32, key: Bytes, value: Bytes, begun: u32) -> Result<(), Memory>
-        requires playing { IsPlaying self.old }
-        requires resting { self.old.mode ≡ Mode.Resting }
-        requires begun { begun ≡ vec_len self.old.changes }
-        requires key { key ≢ [] }
-        requires value { value ≢ [] }
-        requires few { vec_len self.old.changes < 2 ^ 31 }
-        ensures playing { OnOk result (IsPlaying self.new) }
-        ensures few { OnOk result (vec_len self.new.changes ≡ vec_len self.old.changes + 1) }
-        ensures ended { OnOk result (Ends now (Call.Put key value 0) begun self.old self.new) }
-    {
-        let pair = pair_of(self.alloc, &key, &value)?;
-        self.map.put(pair)?;
-        let change = put_of(self.alloc, &key, &value)?;
-        self.changes.push(change)?;
-        let call = Call::Put {
-            key,
-            value,
-            seconds: 0,
+        if who != OPENER {
+            return Err(Halt::Refused);
+        }
+        if !is_built(&call) {
+            return Err(Halt::Refused);
+        }
+        let Some(opener) = &mut self.opener else {
+            return Err(Halt::Refused);
         };
-        let answer = answer_to(now, call, begun, begun + 1, Reply::Done);
-        self.outcomes.push(Outcome::Answered(answer))?;
+        opener.begin(&self.seat, call, now)?;
         Ok(())
     }
 
-    fn remove(&mut self, now: u32, key: Bytes, begun: u32) -> Result<(), Memory>
-        requires playing { IsPlaying self.old }
-        requires resting { self.old.mode ≡ Mode.Resting }
-        requires begun { begun ≡ vec_len self.old.changes }
-        requires few { vec_len self.old.changes < 2 ^ 31 }
-        ensures playing { OnOk result (IsPlaying self.new) }
-        ensures few { OnOk result (vec_len self.new.changes ≡ vec_len self.old.changes + 1) }
-        ensures ended { OnOk result (Ends now (Call.Remove key) begun self.old self.new) }
+    fn step(&mut self, who: u32, count: u32) -> Result<(), Halt>
+        requires ready { IsReady self.old }
+        ensures ready { OnOk result (IsReady self.new) }
+        ensures taken { (stock left : Stock) (start : Region) (parts : List Part) → IsAt stock left start parts self.old → Takes stock left start parts (Some (Line.Step who count)) self.new result }
     {
-        self.map.take_out(key.as_slice());
-        let change = remove_of(self.alloc, &key)?;
-        self.changes.push(change)?;
-        let answer = answer_to(now, Call::Remove { key }, begun, begun + 1, Reply::Done);
-        self.outcomes.push(Outcome::Answered(answer))?;
+        if who != OPENER {
+            return Err(Halt::Refused);
+        }
+        let Some(opener) = &mut self.opener else {
+            return Err(Halt::Refused);
+        };
+        let last = steps(opener, &mut self.seat, count);
+        self.note(last)
+    }
+
+    // Adds what the opener's last step came to, if it is an outcome.
+    fn note(&mut self, last: Step) -> Result<(), Halt>
+        ensures ok { OnOk result (Notes last self.old self.new) }
+        ensures err { IfErr result IsNoRefusal }
+    {
+        if let Some(outcome) = outcome_of(last)? {
+            self.outcomes.push(outcome).map_err(|_| Halt::Memory)?;
+        }
         Ok(())
     }
 }
 
-// A pair of copies, which never expires.
-fn pair_of(alloc: Global, key: &Bytes, value: &Bytes) -> Result<Pair, Memory>
-    ensures { IfOk result (λ pair. pair ≡ record { key = key.now; value = value.now; expiry = 0 }) }
+// An opener that has made no call.
+fn opener_at(alloc: Global, seat: &LocalSeat, handler: Box<dyn Handler + Send>) -> Opener
+    requires alive { (seat_state seat.now).ended ≡ false }
+    requires free { (seat_state seat.now).holds ≡ None }
+    requires accepted { IsAccepted seat.now.region.start }
+    ensures tied { Tied result (seat_state seat.now) }
+    ensures new { result ≡ record { who = seat.now.who; image = None; holds = 0; work = Work.Idle } }
 {
-    Ok(Pair {
-        key: Bytes::copy_of(alloc, key.as_slice())?,
-        value: Bytes::copy_of(alloc, value.as_slice())?,
-        expiry: 0,
-    })
+    Opener::new(alloc, seat.who(), handler)
 }
 
-fn put_of(alloc: Global, key: &Bytes, value: &Bytes) -> Result<Change, Memory>
-    ensures { IfOk result (λ change. change ≡ record { maker = 1; act = Act.Put key.now value.now 0 }) }
+// Steps of the running call, to the first that doesn't leave it going, or to so many. What the last of them came to.
+fn steps(opener: &mut Opener, seat: &mut LocalSeat, count: u32) -> Step
+    requires { Tied opener.old (seat_state seat.old) }
+    ensures tied { Tied opener.new (seat_state seat.new) }
+    ensures who { seat.new.who ≡ seat.old.who }
+    ensures stepped { (start : Region) (past : List Event) (held : ℕ) (before : Option Running) →
+        Stepped start past held before 0 Step.Going [] opener.old seat.old →
+        (made : List Event) × Stepped start past held before count result made opener.new seat.new }
 {
-    let act = Act::Put {
-        key: Bytes::copy_of(alloc, key.as_slice())?,
-        value: Bytes::copy_of(alloc, value.as_slice())?,
-        expiry: 0,
-    };
-    Ok(Change { maker: 1, act })
+    for _ in 0..count {
+        match opener.step(seat) {
+            Step::Going => {}
+            last => return last,
+        }
+    }
+    Step::Going
 }
 
-fn remove_of(alloc: Global, key: &Bytes) -> Result<Change, Memory>
-    ensures { IfOk result (λ change. change ≡ record { maker = 1; act = Act.Remove key.now }) }
+// The outcome of a line whose last step came to this, if it has one.
+fn outcome_of(last: Step) -> Result<Option<Outcome>, Halt>
+    ensures ok { IfOk result (IsOutcomeAt last) }
+    ensures err { IfErr result IsNoRefusal }
 {
-    let act = Act::Remove {
-        key: Bytes::copy_of(alloc, key.as_slice())?,
-    };
-    Ok(Change { maker: 1, act })
-}
-
-// What a map answers to a get.
-fn reply_to(alloc: Global, map: &ExpiringMap, key: &[u8], now: u32) -> Result<Reply, Memory>
-    ensures { IfOk result (λ reply. reply ≡ reply_in map.now now (Call.Get key.now)) }
-{
-    match map.value_at(key, now) {
-        Some(value) => Ok(Reply::Value(Bytes::copy_of(alloc, value)?)),
-        None => Ok(Reply::None),
+    match last {
+        Step::Idle | Step::Going | Step::Again => Ok(None),
+        Step::Blocked(holder) => Ok(Some(Outcome::Blocked {
+            who: OPENER,
+            holder,
+        })),
+        Step::Answered(answer) => Ok(Some(Outcome::Answered(answer))),
+        Step::Stopped(stop) => Ok(Some(Outcome::Stopped {
+            who: OPENER,
+            reason: reason_of(stop)?,
+        })),
     }
 }
 
-// Opener 1's answer to a call whose place is where it began.
-fn answer_to(now: u32, call: Call, place: u32, ended: u32, reply: Reply) -> Answer
-    ensures { result ≡ answer_to now call place ended reply }
+// The reason that is printed for a stop; the others end the play.
+fn reason_of(stop: Stop) -> Result<Reason, Halt>
+    ensures ok { IfOk result IsPrinted }
+    ensures err { IfErr result IsNoRefusal }
 {
-    Answer {
-        who: 1,
-        call,
-        now,
-        begun: place,
-        place,
-        ended,
-        reply,
-        loads: 0,
-        stores: 0,
-        locks: 0,
+    match stop {
+        Stop::Full { need } => Ok(Reason::Full { need }),
+        Stop::SequenceEnd => Ok(Reason::SequenceEnd),
+        Stop::ExpiryOff => Ok(Reason::ExpiryOff),
+        Stop::ExpiryRange => Ok(Reason::ExpiryRange),
+        Stop::Memory => Err(Halt::Memory),
+        Stop::JournalFull => Err(Halt::JournalFull),
+        Stop::NotWhole(_) | Stop::Version(_) | Stop::Flags(_) | Stop::Fault => Err(Halt::NotWhole),
     }
 }
 
-fn may_begin(call: &Call) -> bool
-    ensures { IsTrue result ↔ MayBegin call.now }
+// Calls that switch the expiry aren't there yet.
+fn is_built(call: &Call) -> bool
+    ensures { IsTrue result ↔ IsBuilt call.now }
 {
-    match call {
-        Call::Get { key } | Call::Remove { key } => !key.as_slice().is_empty(),
-        Call::Put { key, value, .. } => !key.as_slice().is_empty() && !value.as_slice().is_empty(),
-        _ => false,
-    }
-}
-
-fn needs_expiry(call: &Call) -> bool
-    ensures { IsTrue result ↔ NeedsExpiry call.now }
-{
-    match call {
-        Call::Put { seconds, .. } => *seconds > 0,
-        _ => false,
-    }
+    !matches!(call, Call::Enable { .. } | Call::Disable)
 }

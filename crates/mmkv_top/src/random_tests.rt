@@ -2,6 +2,7 @@
 ghost use Rattle.std.specs.Prelude.{◌<◌, ◌≤◌};
 
 use crate::ending::Status;
+use crate::play_tests::no_handlers;
 use crate::second_reading::dump_of;
 use crate::top::run;
 use expiring_map::Bytes;
@@ -120,7 +121,14 @@ fn dumped(alloc: Global, body: Vec<u8>, meta: &[u8]) -> Result<(u8, Bytes), Fail
     }
     let mut out = MemSink::new(alloc, 8192, Vec::new(alloc))?;
     let mut input = MemSource::new(Vec::new(alloc), Vec::new(alloc));
-    let Status(status) = run(alloc, &line, &mut shelf, &mut input, &mut out);
+    let Status(status) = run(
+        alloc,
+        &line,
+        &mut shelf,
+        &mut input,
+        &mut out,
+        no_handlers(alloc),
+    );
     Ok((status, Bytes::copy_of(alloc, out.written())?))
 }
 

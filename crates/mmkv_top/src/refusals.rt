@@ -1,6 +1,6 @@
 // The endings of commands that are refused.
 ghost use Rattle.std.specs.Prelude.{◌≡◌, IfOk};
-ghost use Rattle.mmkv_top.specs.Due.{IsUnbrought, refused};
+ghost use Rattle.mmkv_top.specs.Due.{IsUnbrought, over_limit, refused};
 
 use crate::ending::Ending;
 use expiring_map::Memory;
@@ -15,12 +15,16 @@ pub(crate) fn unbrought(alloc: Global, stop: ShelfStop) -> Result<Ending, Memory
     match stop {
         ShelfStop::Failed => Ending::of_text(alloc, 5, "region fault\n"),
         ShelfStop::Absent => Ending::of_text(alloc, 13, "no store\n"),
-        ShelfStop::SizeRefused(size) => Ok(Ending::of_string(
-            14,
-            format!(in alloc; "size {size}\n")?,
-        )),
+        ShelfStop::SizeRefused(size) => over_limit(alloc, size),
         ShelfStop::Memory => Err(Memory),
     }
+}
+
+/// A file has so many bytes, which is over its limit.
+pub(crate) fn over_limit(alloc: Global, size: u64) -> Result<Ending, Memory>
+    ensures { IfOk result (λ e. e ≡ over_limit size) }
+{
+    Ok(Ending::of_string(14, format!(in alloc; "size {size}\n")?))
 }
 
 /// Why a record is refused.

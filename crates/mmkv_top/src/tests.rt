@@ -1,4 +1,5 @@
 // Runs of the command `dump` over stores in memory.
+use crate::play_tests::no_handlers;
 use crate::{Status, run};
 use expiring_map::{Bytes, Memory};
 use meta_record::{
@@ -104,7 +105,14 @@ fn ran(
     }
     let mut out = MemSink::new(alloc, room, Vec::new(alloc))?;
     let mut input = MemSource::new(Vec::new(alloc), Vec::new(alloc));
-    let Status(status) = run(alloc, &line, shelf, &mut input, &mut out);
+    let Status(status) = run(
+        alloc,
+        &line,
+        shelf,
+        &mut input,
+        &mut out,
+        no_handlers(alloc),
+    );
     Ok((status, Bytes::copy_of(alloc, out.written())?))
 }
 

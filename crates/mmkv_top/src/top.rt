@@ -4,12 +4,14 @@ ghost use Rattle.region_words.specs.Outside.{Rose};
 ghost use Rattle.mmkv_top.specs.Command.{IsNamed, IsNoCommand};
 ghost use Rattle.mmkv_top.specs.Ending.{EndsWith, IsDueOr, ending};
 ghost use Rattle.mmkv_top.specs.Due.{IsDump, IsPlay};
+ghost use Rattle.mmkv_top.specs.Played.{stock_of};
 
 use crate::command::{Command, command_of};
 use crate::dump::dump;
 use crate::ending::{Ending, Status, deliver};
 use crate::play::play;
 use expiring_map::Bytes;
+use handlers::HandlerStock;
 use region_words::{Shelf, Sink, Source};
 use std::alloc::Global;
 
@@ -21,6 +23,7 @@ pub fn run<D: Shelf, S: Source, K: Sink>(
     shelf: &mut D,
     input: &mut S,
     out: &mut K,
+    mut stock: HandlerStock,
 ) -> Status
     // What each command ends with. Instead the shelf, the source or the sink had a fault, or memory was refused.
     ensures usage { IsNoCommand words.now → EndsWith (K.written out.old) (K.written out.new)
@@ -31,7 +34,7 @@ pub fn run<D: Shelf, S: Source, K: Sink>(
         (IsDump (D.stores shelf.old id)) }
     ensures play { (id : List ℕ) → IsNamed words.now (codes "play") id → EndsWith (K.written out.old) (K.written out.new)
         (Rose (K.faults out.old) (K.faults out.new)) (Rose (D.faults shelf.old) (D.faults shelf.new)) result
-        (IsPlay (S.left input.old) (S.left input.new) (Rose (S.faults input.old) (S.faults input.new)) (D.stores shelf.old id)) }
+        (IsPlay (stock_of stock) (S.left input.old) (S.left input.new) (Rose (S.faults input.old) (S.faults input.new)) (D.stores shelf.old id)) }
 
     // Each fault has its cause.
     ensures usage_only { result.0 ≡ 2 → IsNoCommand words.now }
@@ -43,17 +46,23 @@ pub fn run<D: Shelf, S: Source, K: Sink>(
     ensures same { (id : List ℕ) → D.stores shelf.new id ≡ D.stores shelf.old id }
     ensures clean { result.0 ≡ 0 → D.faults shelf.new ≡ D.faults shelf.old }
 {
-    deliver(&plan(alloc, words, shelf, input), out)
+    deliver(&plan(alloc, words, shelf, input, &mut stock), out)
 }
 
 // What the run is to end with.
-fn plan<D: Shelf, S: Source>(alloc: Global, words: &[Bytes], shelf: &mut D, input: &mut S) -> Ending
+fn plan<D: Shelf, S: Source>(
+    alloc: Global,
+    words: &[Bytes],
+    shelf: &mut D,
+    input: &mut S,
+    handlers: &mut HandlerStock,
+) -> Ending
     ensures usage { IsNoCommand words.now → IsDueOr (Rose (D.faults shelf.old) (D.faults shelf.new)) (λ e. e ≡ ending 2 (codes "usage\n")) result }
     ensures dump { (id : List ℕ) → IsNamed words.now (codes "dump") id →
         IsDueOr (Rose (D.faults shelf.old) (D.faults shelf.new)) (IsDump (D.stores shelf.old id)) result }
     ensures play { (id : List ℕ) → IsNamed words.now (codes "play") id →
         IsDueOr (Rose (D.faults shelf.old) (D.faults shelf.new))
-        (IsPlay (S.left input.old) (S.left input.new) (Rose (S.faults input.old) (S.faults input.new)) (D.stores shelf.old id)) result }
+        (IsPlay (stock_of handlers.old) (S.left input.old) (S.left input.new) (Rose (S.faults input.old) (S.faults input.new)) (D.stores shelf.old id)) result }
     ensures usage_only { result.status ≡ 2 → IsNoCommand words.now }
     ensures read_fault { result.status ≡ 3 → Rose (S.faults input.old) (S.faults input.new) }
     ensures no_write { result.status ≢ 4 }
@@ -63,7 +72,7 @@ fn plan<D: Shelf, S: Source>(alloc: Global, words: &[Bytes], shelf: &mut D, inpu
 {
     match command_of(words) {
         Some(Command::Dump { id }) => dump(alloc, shelf, id),
-        Some(Command::Play { id }) => play(alloc, shelf, id, input),
+        Some(Command::Play { id }) => play(alloc, shelf, id, input, handlers),
         None => match Ending::of_text(alloc, 2, "usage\n") {
             Ok(ending) => ending,
             Err(_) => Ending::no_memory(alloc),

@@ -1,35 +1,54 @@
 -- What an opener knows of its share's journal is carried over what others do, and over its own calls.
-use Rattle.std.proofs.Common.{◌≡◌, ℕ, ◌<◌, ◌≤◌, arith, Bool, true, false, cond, List, ◌++◌, length, take, refl, sym, ◌∙◌, subst, ap, append_assoc, length-append}
-use Rattle.std.specs.Prelude.{Option, Some, None, ◌==◌}
+use Rattle.std.proofs.Common.{◌≡◌, ◌≢◌, ℕ, zero, suc, ◌<◌, ◌≤◌, arith, true, false, cond, List, [], ◌∷◌, ◌++◌, length, take, refl, sym, ◌∙◌, subst, ap, append_assoc, length-append}
+use Rattle.std.specs.Prelude.{Option, Some, None, slice_get, IfSome, ◌==◌}
 use Rattle.std.proofs.lemmas.List.{take-append-le}
 use Rattle.std.proofs.lemmas.Bool.Decides.{nat_tests}
-use Rattle.change_log.specs.Acts.{replay}
+use Rattle.change_log.specs.Acts.{act_of, replay}
 use Rattle.change_log.specs.History.{reply_in}
 use Rattle.change_log.specs.declared.call.Call.{Call}
 use Rattle.change_log.specs.declared.call.Reply.{Reply}
+use Rattle.change_log.specs.declared.change.Act.{Act}
+use Rattle.change_log.specs.declared.change.Change.{Change}
 use Rattle.lock_rules.specs.declared.table.LockKind.{LockKind}
-use Rattle.lock_rules.specs.declared.table.LockKind.TheVariants.{Shared, Exclusive}
-use Rattle.region_words.specs.Region.{Region, IsRegion, base}
-use Rattle.region_words.specs.Past.{region_after, changes_of, locks_after, NoneOf}
+use Rattle.lock_rules.specs.declared.table.LockKind.TheVariants.{Exclusive}
+use Rattle.region_words.specs.Region.{Region, IsRegion, IsAccepted, base, file_size, record_of, shown, map_shown}
+use Rattle.meta_record.specs.declared.shown.Shown.TheVariants.{Whole}
+use Rattle.region_words.specs.Past.{region_after, after_all, changes_of, locks_after, NoneOf}
+use Rattle.region_words.specs.Apart.{Apart}
+use Rattle.region_words.specs.Rows.{Row}
 use Rattle.region_words.specs.Lawful.{Lawful, Between}
+use Rattle.region_words.specs.Making.{Making}
+use Rattle.region_words.specs.Owing.{AreStorable, Comes}
+use Rattle.region_words.specs.Outcome.{AtRest}
+use Rattle.region_words.specs.Standings.{IsStandingOf}
 use Rattle.region_words.specs.Told.{History, OnTold, changes_told}
 use Rattle.region_words.specs.Share.{ShareState, Agrees, After, Left, Grows, made_by}
 use Rattle.region_words.specs.Local.{lock_after}
 use Rattle.region_words.specs.declared.event.Event.{Event}
+use Rattle.region_words.specs.declared.event.What.{What}
+use Rattle.region_words.proofs.Coming.{coming_later}
 use Rattle.region_words.proofs.Held.{held}
 use Rattle.region_words.proofs.Later.{lock_others, reaches_later}
 use Rattle.region_words.proofs.LockOf.{holds_some}
+use Rattle.region_words.proofs.Notices.{kept_at_rest}
 use Rattle.region_words.proofs.ReadLaws.{apart_front, changes_more, lawful_front}
-use Rattle.region_words.proofs.Telling.{told_and, told_step, grows_to, grows_from}
-use Rattle.loader.specs.Loads.{HasLoaded, Load as Loading}
+use Rattle.region_words.proofs.StaysFirm.{fresh_before, file_grows}
+use Rattle.region_words.proofs.Telling.{told_and, told_map, told_step, grows_to, grows_from}
+use Rattle.expiring_map.specs.Map.{Map}
+use Rattle.loader.specs.Loads.{HasLoaded}
 use Rattle.loader.specs.declared.loaded.Image.{Image}
 use Rattle.opener.specs.State.{OpenerState}
-use Rattle.opener.specs.Opener.{Facts, Knows, Tied, ImageIs, ReplyIs, EndIs, StopIs, StageIs, WorkIs, IsAt, held_by, lock_at, lock_in, is_ended}
+use Rattle.opener.specs.Ends.{OnImage, lock_by}
+use Rattle.opener.specs.Opener.{Facts, Knows, Tied, IsShown, WasShown, ImageIs, ReplyIs, ChangeIs, EndIs, StageIs, WorkIs, IsAt, IsAtStage, Owes, lock_in, is_ended, is_storing, IsCalm}
+use Rattle.opener.specs.Plans.{IsSoundImage}
+use Rattle.opener.specs.Writes.{MayStart, HasStanding, Leads, PlanLeads, commits_of, first_events}
+use Rattle.opener.specs.declared.plan.Plan.{Plan}
+use Rattle.opener.specs.declared.plan.Plan.TheVariants.{Append, Rewrite}
 use Rattle.opener.specs.declared.work.Running.{Running}
 use Rattle.opener.specs.declared.work.End.{End}
 use Rattle.opener.specs.declared.work.End.TheVariants as end
 use Rattle.opener.specs.declared.work.Stage.{Stage}
-use Rattle.opener.specs.declared.work.Stage.TheVariants.{PeekChecksum, PeekSequence, LockShared, Load, Unlock, Hold, Release}
+use Rattle.opener.specs.declared.work.Stage.TheVariants.{PeekChecksum, PeekSequence, LockShared, LockExclusive, Load, Size, Reserve, Store, Unlock, Hold, Release}
 use Rattle.opener.specs.declared.work.Work.{Work}
 use Rattle.opener.specs.declared.work.Work.TheVariants.{Idle, Ended, Runs}
 
@@ -37,18 +56,17 @@ use Rattle.opener.specs.declared.work.Work.TheVariants.{Idle, Ended, Runs}
 pub more_changes : (more past : List Event) → length (changes_of past) ≤ length (changes_of (more ++ past))
 more_changes more past = omega (arith, ap length (changes_more more past), length-append (changes_of past) (changes_of more))
 
-pub image_later : (image : Option Image) (start : Region) (more past : List Event) → ImageIs image start past → ImageIs image start (more ++ past)
-image_later None start more past is = tt
-image_later (Some i) start more past is =
-    λ ok apart.
-    let w = is ok (apart_front start more past apart) in
+was_shown_later : (i : Image) (start : Region) (more past : List Event) → WasShown i start past → WasShown i start (more ++ past)
+was_shown_later i start more past w =
+    record { later = more ++ w.later; earlier = w.earlier; is = append_assoc more w.later w.earlier ∙ ap (λ l. more ++ l) w.is; shown = w.shown }
+
+pub image_later : (image : Option Image) (start : Region) (more past : List Event) → Lawful start (more ++ past) → ImageIs image start past → ImageIs image start (more ++ past)
+image_later None start more past l is = tt
+image_later (Some i) start more past l is =
     record {
-      later = more ++ w.later;
-      earlier = w.earlier;
-      is = append_assoc more w.later w.earlier ∙ ap (λ l. more ++ l) w.is;
-      kept = w.kept;
-      known = w.known;
-      history = w.history;
+      file = omega (arith, is.file, file_grows start more past l);
+      firm = λ none. is.firm (fresh_before start more past l none);
+      shown = λ ok apart. was_shown_later i start more past (is.shown ok (apart_front start more past apart));
     }
 
 -- a reply at an earlier place stays right
@@ -60,133 +78,217 @@ reply_later call now reply place start more past within is =
     ap (take place) (changes_more more past) ∙ take-append-le place (changes_of past) (changes_of more) within in
     is ok (apart_front start more past apart) ∙ ap (λ l. reply_in (replay (base start) l) now call) (sym front)
 
--- while a lock is held the region is as it was
-pub region_held : (start : Region) (others past : List Event) (who : ℕ) (kind : LockKind) → Lawful start (others ++ past) → NoneOf who others →
-    lock_after past who ≡ Some kind → region_after start (others ++ past) ≡ region_after start past
-region_held start others past who kind l none mine =
-    (held start others past who l (holds_some (locks_after past) who (λ e. absurd (not_both (sym mine ∙ e)))) none).0
-  where
-    not_both : Some kind ≡ None → ⊥
-    not_both e = cc
+get_front : (xs ys : List Change) (i : ℕ) (c : Change) → slice_get xs i ≡ Some c → slice_get (xs ++ ys) i ≡ Some c
+get_front [] ys i c e = absurd cc
+get_front (x ∷ xs) ys zero c e = e
+get_front (x ∷ xs) ys (suc i) c e = get_front xs ys i c e
 
-end_later : (how : End) (running : Running) (start : Region) (others past : List Event) (who : ℕ) → Lawful start (others ++ past) → NoneOf who others →
-    lock_after past who ≡ Some Shared → EndIs how running start past → EndIs how running start (others ++ past)
-end_later (end.Answer place reply) running start others past who l none mine is = (
+-- and so does an own change
+pub change_later : (who : ℕ) (running : Running) (place : ℕ) (more past : List Event) → ChangeIs who running place past → ChangeIs who running place (more ++ past)
+change_later who running place more past is = go (act_of running.call running.now) is
+  where
+    go : (act : Option Act) → IfSome act (λ a. slice_get (changes_of past) place ≡ Some (record { maker = who; act = a })) →
+        IfSome act (λ a. slice_get (changes_of (more ++ past)) place ≡ Some (record { maker = who; act = a }))
+    go None is = tt
+    go (Some a) is = ap (λ l. slice_get l place) (changes_more more past) ∙ get_front (changes_of past) (changes_of more) place _ is
+
+-- while a lock is held the region and the changes are as they were
+pub still_held : (start : Region) (others past : List Event) (who : ℕ) (lock : Option LockKind) → Lawful start (others ++ past) → NoneOf who others →
+    lock_after past who ≡ lock → lock ≢ None →
+    (region_after start (others ++ past) ≡ region_after start past) × (changes_of (others ++ past) ≡ changes_of past)
+still_held start others past who lock l none mine some =
+    let h = held start others past who l (holds_some (locks_after past) who (λ e. some (sym mine ∙ e))) none in
+    (h.0, h.1)
+
+pub exclusive_some : (lock : Option LockKind) → lock ≡ Some Exclusive → lock ≢ None
+exclusive_some lock e none = let both = sym e ∙ none in cc
+
+pub end_later : (who : ℕ) (how : End) (running : Running) (start : Region) (others past : List Event) → EndIs who how running start past → EndIs who how running start (others ++ past)
+end_later who (end.Answer place reply) running start others past is = (
   is.0,
   omega (arith, is.1, more_changes others past),
   reply_later running.call running.now reply place start others past is.1 is.2,
+  change_later who running place others past is.3,
 )
-end_later (end.Stop why) running start others past who l none mine is = subst (StopIs why) (sym (region_held start others past who Shared l none mine)) is
+end_later who (end.Stop why) running start others past is = tt
 
-read_held : (holds : ℕ) (start : Region) (others past : List Event) (who : ℕ) (loading : Loading) → Lawful start (others ++ past) → NoneOf who others →
-    lock_after past who ≡ lock_at holds (Load loading) → region_after start (others ++ past) ≡ region_after start past
-read_held holds start others past who loading l none mine = go (holds == 0) mine
-  where
-    go : (b : Bool) → lock_after past who ≡ cond b (Some Shared) (Some Exclusive) → region_after start (others ++ past) ≡ region_after start past
-    go true mine = region_held start others past who Shared l none mine
-    go false mine = region_held start others past who Exclusive l none mine
+-- The same region and the same changes, at a later moment.
+module _ (start : Region) (others past : List Event) (region : region_after start (others ++ past) ≡ region_after start past) (changes : changes_of (others ++ past) ≡ changes_of past) where
+  pub leads_on : (k : Making) (m : Map) → Leads k m start past → Leads k m start (others ++ past)
+  leads_on k m is =
+      record {
+        file = subst (λ r. k.standing.file_size ≤ file_size (after_all r k.events)) (sym region) is.file;
+        firm = subst (λ r. (record_of (after_all r k.events)).version ≡ 0 → k.standing.version ≡ 0) (sym region) is.firm;
+        stands = λ ok apart. subst (λ r. HasStanding (after_all r k.events) k.standing) (sym region) (is.stands ok (apart_front start others past apart));
+        map = λ ok apart. ap (λ l. replay (base start) (l ++ commits_of k.events)) changes ∙ is.map ok (apart_front start others past apart);
+      }
 
-pub stage_later : (image : Option Image) (holds : ℕ) (running : Running) (stage : Stage) (start : Region) (others past : List Event) (who : ℕ) →
-    Lawful start (others ++ past) → NoneOf who others → lock_after past who ≡ lock_at holds stage →
-    StageIs image running stage start past → StageIs image running stage start (others ++ past)
-stage_later image holds running PeekChecksum start others past who l none mine is = tt
-stage_later image holds running (PeekSequence peek) start others past who l none mine is =
+  pub plan_on : (plan : Plan) → PlanLeads plan start past → PlanLeads plan start (others ++ past)
+  plan_on (Append a map) is = leads_on a map is
+  plan_on (Rewrite r None map) is = leads_on r map is
+  plan_on (Rewrite r (Some a) map) is = (is.0, leads_on r is.0 is.1, is.2)
+
+  -- an image that is shown at rest is shown still
+  pub shown_on : (i : Image) → AtRest start (others ++ past) → IsShown i start past → IsShown i start (others ++ past)
+  shown_on i rests is =
+      record {
+        kept = kept_at_rest start (others ++ past) i.standing.size i.map rests
+            (subst (λ r. shown r ≡ Whole i.standing.size) (sym region) is.kept.shows) (subst (λ r. map_shown r ≡ Some i.map) (sym region) is.kept.maps);
+        known = subst (λ r. IsStandingOf r i.standing.size i.standing) (sym region) is.known;
+        history = is.history ∙ sym (ap (replay (base start)) changes);
+      }
+
+comes_later : (start : Region) (others past : List Event) (who : ℕ) (row : Row) (events : List What) → Lawful start (others ++ past) → NoneOf who others →
+    lock_after past who ≡ Some Exclusive → Comes start past who row events → Comes start (others ++ past) who row events
+comes_later start others past who row [] l n mine c = reaches_later start others past who _ l n mine c
+comes_later start others past who row (what ∷ rest) l n mine c = coming_later start others past who row (what ∷ rest) l n mine c
+
+starts_later : (who : ℕ) (row : Row) (events : List What) (start : Region) (others past : List Event) → Lawful start (others ++ past) → NoneOf who others →
+    lock_after past who ≡ Some Exclusive → MayStart row events who start past → MayStart row events who start (others ++ past)
+starts_later who row events start others past l none mine is =
+    let same = still_held start others past who (Some Exclusive) l none mine (λ e. cc) in
     record {
-      later = others ++ is.later;
-      earlier = is.earlier;
-      is = append_assoc others is.later is.earlier ∙ ap (λ l. others ++ l) is.is;
-      place = is.place;
-      since = is.since;
-      checksum = is.checksum;
-      kept = is.kept;
+      storable = subst (λ r. AreStorable r who events) (sym same.0) is.storable;
+      coming = λ apart. comes_later start others past who row events l none mine (is.coming (apart_front start others past apart));
     }
-stage_later image holds running LockShared start others past who l none mine is = tt
-stage_later image holds running (Load loading) start others past who l none mine is =
-    subst (HasLoaded loading) (sym (read_held holds start others past who loading l none mine)) is
-stage_later image holds running (Unlock how) start others past who l none mine is = end_later how running start others past who l none mine is
-stage_later image holds running Hold start others past who l none mine is = is
-stage_later image holds running Release start others past who l none mine is = is
 
-pub work_later : (image : Option Image) (holds : ℕ) (work : Work) (start : Region) (others past : List Event) (who : ℕ) →
-    Lawful start (others ++ past) → NoneOf who others → lock_after past who ≡ lock_in holds work →
-    WorkIs image work start past → WorkIs image work start (others ++ past)
-work_later image holds Idle start others past who l none mine is = tt
-work_later image holds Ended start others past who l none mine is = tt
-work_later image holds (Runs running stage) start others past who l none mine is = (
-  omega (arith, is.0, more_changes others past),
-  stage_later image holds running stage start others past who l none mine is.1,
-)
+module _ (o : OpenerState) (running : Running) (start : Region) (others past : List Event) (l : Lawful start (others ++ past)) (none : NoneOf o.who others)
+    (mine : lock_after past o.who ≡ lock_by o.holds running.taken) where
+  abbrev lock : Option LockKind
+  lock = lock_by o.holds running.taken
+
+  same : lock ≢ None → (region_after start (others ++ past) ≡ region_after start past) × (changes_of (others ++ past) ≡ changes_of past)
+  same some = still_held start others past o.who lock l none mine some
+
+  peeked_later : (peek : _) → StageIs o running (PeekSequence peek) start past → StageIs o running (PeekSequence peek) start (others ++ past)
+  peeked_later peek is = (
+    record {
+      later = others ++ is.0.later;
+      earlier = is.0.earlier;
+      is = append_assoc others is.0.later is.0.earlier ∙ ap (λ l. others ++ l) is.0.is;
+      place = is.0.place;
+      since = is.0.since;
+      checksum = is.0.checksum;
+      kept = is.0.kept;
+    },
+    λ e. is.1 e ∙ sym (ap (λ r. (record_of r).checksum) (same (exclusive_some lock e)).0),
+  )
+
+  pub stage_later : (stage : Stage) → (Apart start (others ++ past) → lock ≡ Some Exclusive → is_storing (Runs running stage) ≡ false → IsCalm start (others ++ past)) →
+      IsAtStage o running stage → StageIs o running stage start past → StageIs o running stage start (others ++ past)
+  stage_later PeekChecksum rests at is = tt
+  stage_later (PeekSequence peek) rests at is = peeked_later peek is
+  stage_later LockShared rests at is = tt
+  stage_later LockExclusive rests at is = tt
+  stage_later (Load loading) rests at is = subst (HasLoaded loading) (sym (same at.1).0) is
+  stage_later Size rests at is = go o.image is
+    where
+      go : (image : Option Image) → OnImage image (λ i. IsAccepted start → Apart start past → IsShown i start past) →
+          OnImage image (λ i. IsAccepted start → Apart start (others ++ past) → IsShown i start (others ++ past))
+      go None is = tt
+      go (Some i) is = λ ok apart.
+          let s = same (exclusive_some lock at.1) in
+          shown_on start others past s.0 s.1 i (None, rests apart at.1 refl) (is ok (apart_front start others past apart))
+  stage_later (Reserve plan) rests at is =
+      let s = same (exclusive_some lock at.0) in
+      ((is.0.0, is.0.1, starts_later o.who is.0.0 (first_events plan) start others past l none (mine ∙ at.0) is.0.2), plan_on start others past s.0 s.1 plan is.1)
+  stage_later (Store plan) rests at is =
+      let s = same (exclusive_some lock at.0) in
+      (plan_on start others past s.0 s.1 plan is.0, record { before = is.1.before; made = is.1.made; are = s.1 ∙ is.1.are; begun = is.1.begun; all = is.1.all })
+  stage_later (Unlock how) rests at is = end_later o.who how running start others past is
+  stage_later Hold rests at is = tt
+  stage_later Release rests at is = tt
 
 -- with a hold the lock is exclusive
 pub some_holds : (holds : ℕ) → 0 < holds → (holds == 0) ≡ false
 some_holds holds some = grind (arith, nat_tests)
 
-pub exclusive_if : (holds : ℕ) → 0 < holds → held_by holds ≡ Some Exclusive
-exclusive_if holds some = ap (λ b. cond b None (Some Exclusive)) (some_holds holds some)
+pub exclusive_if : (holds : ℕ) (taken : Option LockKind) → 0 < holds → lock_by holds taken ≡ Some Exclusive
+exclusive_if holds taken some = ap (λ b. cond b taken (Some Exclusive)) (some_holds holds some)
 
-read_if : (holds : ℕ) (loading : Loading) → 0 < holds → lock_at holds (Load loading) ≡ Some Exclusive
-read_if holds loading some = ap (λ b. cond b (Some Shared) (Some Exclusive)) (some_holds holds some)
+-- without one it is the call's own
+pub none_held : (holds : ℕ) → holds ≡ 0 → (holds == 0) ≡ true
+none_held holds none = grind (arith, nat_tests)
 
-pub exclusive_held : (image : Option Image) (holds : ℕ) (work : Work) → IsAt image holds work → 0 < holds → lock_in holds work ≡ Some Exclusive
-exclusive_held image holds Idle at some = exclusive_if holds some
-exclusive_held image holds Ended at some = absurd (omega (arith, at, some))
-exclusive_held image holds (Runs running PeekChecksum) at some = exclusive_if holds some
-exclusive_held image holds (Runs running (PeekSequence peek)) at some = exclusive_if holds some
-exclusive_held image holds (Runs running LockShared) at some = absurd (omega (arith, at, some))
-exclusive_held image holds (Runs running (Load loading)) at some = read_if holds loading some
-exclusive_held image holds (Runs running (Unlock how)) at some = absurd (omega (arith, at.0, some))
-exclusive_held image holds (Runs running Hold) at some = exclusive_if holds some
-exclusive_held image holds (Runs running Release) at some = refl
+pub own_if : (holds : ℕ) (taken : Option LockKind) → holds ≡ 0 → lock_by holds taken ≡ taken
+own_if holds taken none = ap (λ b. cond b taken (Some Exclusive)) (none_held holds none)
 
-pub carry : (o : OpenerState) (start : Region) (others past : List Event) → Lawful start (others ++ past) → NoneOf o.who others → IsAt o.image o.holds o.work →
+work_later : (o : OpenerState) (start : Region) (others past : List Event) → Lawful start (others ++ past) → NoneOf o.who others → (work : Work) → IsAt o work →
+    (Apart start (others ++ past) → lock_in o.holds work ≡ Some Exclusive → is_storing work ≡ false → IsCalm start (others ++ past)) →
+    lock_after past o.who ≡ lock_in o.holds work → WorkIs o work start past → WorkIs o work start (others ++ past)
+work_later o start others past l none Idle at rests mine is = tt
+work_later o start others past l none Ended at rests mine is = tt
+work_later o start others past l none (Runs running stage) at rests mine is =
+    (omega (arith, is.0, more_changes others past), stage_later o running start others past l none mine stage rests at.2 is.1)
+
+pub carry : (o : OpenerState) (start : Region) (others past : List Event) → Lawful start (others ++ past) → NoneOf o.who others → IsAt o o.work →
     lock_after past o.who ≡ lock_in o.holds o.work → Facts o start past → Facts o start (others ++ past)
 carry o start others past l none at mine f =
-    record {
-      image = image_later o.image start others past f.image;
-      rests = λ some apart.
-          let r = f.rests some (apart_front start others past apart) in
-          (r.0, reaches_later start others past o.who (Between r.0) l none (mine ∙ exclusive_held o.image o.holds o.work at some) r.1);
-      work = work_later o.image o.holds o.work start others past o.who l none mine f.work;
-    }
+    record { image = image_later o.image start others past l f.image; rests = rests; work = work_later o start others past l none o.work at (λ apart held calm. rests held calm apart) mine f.work }
+  where
+    rests : lock_in o.holds o.work ≡ Some Exclusive → is_storing o.work ≡ false → Apart start (others ++ past) → IsCalm start (others ++ past)
+    rests held calm apart = reaches_later start others past o.who (Between None) l none (mine ∙ held) (f.rests held calm (apart_front start others past apart))
 
--- what is known of one plain journal before an own event, and of the one after it, is known of the share's
-pub told_call : (o : OpenerState) (s t : ShareState) (left : Left) (E P : Region → List Event → Type 0) → Tied o s → After left s t →
+-- what is known of one plain journal before an own event, and of the one after it, is known of the share's, whose start is accepted
+pub told_from : (o : OpenerState) (s t : ShareState) (left : Left) (E P : Region → List Event → Type 0) → Tied o s → After left s t →
     OnTold t.told (λ k. E k.start k.past) →
-    ((start : Region) (past : List Event) → IsRegion start → Lawful start (made_by s.who left.own ++ past) → lock_after past s.who ≡ s.holds → Facts o start past →
+    ((start : Region) (past : List Event) → IsAccepted start → IsRegion start → Lawful start (made_by s.who left.own ++ past) → lock_after past s.who ≡ s.holds → Facts o start past →
     E start (made_by s.who left.own ++ past) → P start (made_by s.who left.own ++ past)) →
-    OnTold t.told (λ k. P k.start k.past)
-told_call o s t left E P tied after learned follows =
-    told_step s.told t.told (Knows o s) (λ k. Agrees t k × E k.start k.past) (λ k. P k.start k.past) (Grows s.who s.alone left.own) step
+    OnTold t.told (λ k. IsAccepted k.start × P k.start k.past)
+told_from o s t left E P tied after learned follows =
+    told_step s.told t.told (Knows o s) (λ k. Agrees t k × E k.start k.past) (λ k. IsAccepted k.start × P k.start k.past) (Grows s.who s.alone left.own) step
     tied.told after.told (told_and t.told (Agrees t) (λ k. E k.start k.past) _ (λ h p q. (p, q)) after.sound.told learned)
   where
-    step : (h k : History) → Knows o s h → Grows s.who s.alone left.own h k → Agrees t k × E k.start k.past → P k.start k.past
+    step : (h k : History) → Knows o s h → Grows s.who s.alone left.own h k → Agrees t k × E k.start k.past → IsAccepted k.start × P k.start k.past
     step h k knows g both =
         let lawful = grows_from s.who s.alone left.own h k g Lawful both.0.lawful in
         let before = lawful_front h.start (made_by s.who left.own) (g.others ++ h.past) lawful in
         let mine : lock_after h.past o.who ≡ lock_in o.holds o.work = ap (lock_after h.past) (sym tied.who) ∙ knows.agrees.holds ∙ tied.holds in
         let others : NoneOf o.who g.others = subst (λ w. NoneOf w g.others) tied.who g.by_others in
         let facts = carry o h.start g.others h.past before others tied.at mine knows.facts in
-        let lock : lock_after (g.others ++ h.past) s.who ≡ s.holds = lock_others h.start g.others h.past s.who before g.by_others ∙ knows.agrees.holds in
-        grows_to s.who s.alone left.own h k g P (follows h.start (g.others ++ h.past) knows.agrees.region lawful lock facts (grows_from s.who s.alone left.own h k g E both.1))
+        let lock : lock_after (g.others ++ h.past) s.who ≡ s.holds = lock_others h.start g.others h.past s.who before g.by_others ∙ knows.agrees.holds in (
+          subst IsAccepted (sym g.start) knows.accepted,
+          grows_to s.who s.alone left.own h k g P
+              (follows h.start (g.others ++ h.past) knows.accepted knows.agrees.region lawful lock facts (grows_from s.who s.alone left.own h k g E both.1)),
+        )
 
--- the share is tied to the opener that is left
-pub tied_after : (o next : OpenerState) (s t : ShareState) (left : Left) (E : Region → List Event → Type 0) → Tied o s → After left s t → next.who ≡ o.who →
-    left.ended ≡ is_ended next.work → left.holds ≡ lock_in next.holds next.work → next.holds ≤ 1000 → IsAt next.image next.holds next.work →
+pub told_call : (o : OpenerState) (s t : ShareState) (left : Left) (E P : Region → List Event → Type 0) → Tied o s → After left s t →
     OnTold t.told (λ k. E k.start k.past) →
     ((start : Region) (past : List Event) → IsRegion start → Lawful start (made_by s.who left.own ++ past) → lock_after past s.who ≡ s.holds → Facts o start past →
+    E start (made_by s.who left.own ++ past) → P start (made_by s.who left.own ++ past)) →
+    OnTold t.told (λ k. P k.start k.past)
+told_call o s t left E P tied after learned follows =
+    told_map t.told _ (λ k. P k.start k.past) (λ k is. is.1) (told_from o s t left E P tied after learned (λ start past ok. follows start past))
+
+-- the share is tied to the opener that is left
+pub tied_from : (o next : OpenerState) (s t : ShareState) (left : Left) (E : Region → List Event → Type 0) → Tied o s → After left s t → next.who ≡ o.who →
+    left.ended ≡ is_ended next.work → left.holds ≡ lock_in next.holds next.work → next.holds ≤ 1000 → OnImage next.image IsSoundImage → IsAt next next.work → Owes next next.work t →
+    OnTold t.told (λ k. E k.start k.past) →
+    ((start : Region) (past : List Event) → IsAccepted start → IsRegion start → Lawful start (made_by s.who left.own ++ past) → lock_after past s.who ≡ s.holds → Facts o start past →
     E start (made_by s.who left.own ++ past) → Facts next start (made_by s.who left.own ++ past)) →
     Tied next t
-tied_after o next s t left E tied after who ended holds deep at learned follows =
+tied_from o next s t left E tied after who ended holds deep sound at owes learned follows =
     record {
       who = after.same.who ∙ tied.who ∙ sym who;
       maker = subst (λ w. (1 ≤ w) × (w ≤ 64)) (sym who) tied.maker;
       ended = after.ended ∙ ended;
       holds = after.holds ∙ holds;
       deep = deep;
+      sound = sound;
       at = at;
-      told = told_and t.told (Agrees t) (λ k. Facts next k.start k.past) (Knows next t) (λ k a f. record { agrees = a; facts = f }) after.sound.told
-          (told_call o s t left E (Facts next) tied after learned follows);
+      owes = owes;
+      told = told_and t.told (Agrees t) (λ k. IsAccepted k.start × Facts next k.start k.past) (Knows next t) (λ k a f. record { agrees = a; accepted = f.0; facts = f.1 }) after.sound.told
+          (told_from o s t left E (Facts next) tied after learned follows);
     }
+
+pub tied_after : (o next : OpenerState) (s t : ShareState) (left : Left) (E : Region → List Event → Type 0) → Tied o s → After left s t → next.who ≡ o.who →
+    left.ended ≡ is_ended next.work → left.holds ≡ lock_in next.holds next.work → next.holds ≤ 1000 → OnImage next.image IsSoundImage → IsAt next next.work → Owes next next.work t →
+    OnTold t.told (λ k. E k.start k.past) →
+    ((start : Region) (past : List Event) → IsRegion start → Lawful start (made_by s.who left.own ++ past) → lock_after past s.who ≡ s.holds → Facts o start past →
+    E start (made_by s.who left.own ++ past) → Facts next start (made_by s.who left.own ++ past)) →
+    Tied next t
+tied_after o next s t left E tied after who ended holds deep sound at owes learned follows =
+    tied_from o next s t left E tied after who ended holds deep sound at owes learned (λ start past ok. follows start past)
 
 -- the number of changes that a share says is that of its journal
 pub changes_are : (told : Option History) (n : ℕ) → n ≡ changes_told told → OnTold told (λ h. n ≡ length (changes_of h.past))

@@ -1,6 +1,6 @@
 -- An opener gives its lock up.
-use Rattle.std.proofs.Common.{◌≡◌, ℕ, ◌≤◌, Bool, true, false, cond, List, ◌∷◌, refl, sym, ◌∙◌, subst, not, ◌||◌}
-use Rattle.std.specs.Prelude.{Some, None}
+use Rattle.std.proofs.Common.{◌≡◌, ◌≢◌, ℕ, ◌≤◌, Bool, true, false, cond, List, ◌∷◌, refl, sym, ◌∙◌, subst, not, ◌||◌}
+use Rattle.std.specs.Prelude.{Option, Some, None}
 use Rattle.std.specs.FinSet as set
 use Rattle.lock_rules.specs.Locks.{Locks, holds, holds_exclusive}
 use Rattle.lock_rules.specs.declared.table.LockKind.{LockKind}
@@ -20,10 +20,11 @@ use Rattle.region_words.proofs.LockOf.{holds_some}
 use Rattle.region_words.proofs.Notices.{shared_free, free_rests}
 use Rattle.region_words.proofs.Telling.{told_map}
 use Rattle.opener.specs.State.{OpenerState}
-use Rattle.opener.specs.Opener.{Tied, Knows, running_as}
+use Rattle.opener.specs.Ends.{lock_by}
+use Rattle.opener.specs.Opener.{Tied, Knows, Facts, is_storing, running_as}
 use Rattle.opener.specs.declared.work.Running.{Running}
-use Rattle.opener.specs.declared.work.End.{End}
-use Rattle.opener.specs.declared.work.Stage.TheVariants as stage
+use Rattle.opener.specs.declared.work.Stage.{Stage}
+use Rattle.opener.specs.declared.work.Work.TheVariants.{Runs}
 
 -- a lock may be given up at rest
 unlock_at_rest : (start : Region) (past : List Event) (who : ℕ) → Lawful start past → (1 ≤ who) × (who ≤ 64) → has_died past who ≡ false → holds (locks_after past) who ≡ true →
@@ -51,27 +52,25 @@ shared_is locks who e = go (holds_exclusive locks who) (set.contains locks.share
 pub rests_shared : (start : Region) (past : List Event) (who : ℕ) → Lawful start past → lock_after past who ≡ Some Shared → Apart start past → AtRest start past
 rests_shared start past who l mine apart = free_rests start past l apart (shared_free start past who l (shared_is (locks_after past) who mine))
 
-some_lock : (start : Region) (past : List Event) (who : ℕ) (kind : LockKind) → lock_after past who ≡ Some kind → holds (locks_after past) who ≡ true
-some_lock start past who kind mine = holds_some (locks_after past) who (λ e. let both = sym mine ∙ e in absurd cc)
+-- and under any lock but while stores are made
+pub rests_locked : (o : OpenerState) (running : Running) (stage : Stage) (start : Region) (past : List Event) (who : ℕ) → Lawful start past → Facts (running_as o running stage) start past →
+    is_storing (Runs running stage) ≡ false → (lock : Option LockKind) → lock_by o.holds running.taken ≡ lock → lock ≢ None → lock_after past who ≡ lock → Apart start past → AtRest start past
+rests_locked o running stage start past who l facts calm None is some mine apart = absurd (some refl)
+rests_locked o running stage start past who l facts calm (Some Shared) is some mine apart = rests_shared start past who l mine apart
+rests_locked o running stage start past who l facts calm (Some Exclusive) is some mine apart = (None, facts.rests is calm apart)
 
--- so it may be given up,
-pub may_leave : (o : OpenerState) (running : Running) (how : End) (s : ShareState) → Tied (running_as o running (stage.Unlock how)) s → MayMake Unlock s
-may_leave o running how s tied =
-    told_map s.told (Knows (running_as o running (stage.Unlock how)) s) (λ h. Lawful h.start (event_of s.who Unlock ∷ h.past)) go tied.told
+-- so it may be given up
+pub may_leave : (o : OpenerState) (running : Running) (stage : Stage) (s : ShareState) → Tied (running_as o running stage) s → is_storing (Runs running stage) ≡ false →
+    lock_by o.holds running.taken ≢ None → MayMake Unlock s
+may_leave o running stage s tied calm some =
+    told_map s.told (Knows (running_as o running stage) s) (λ h. Lawful h.start (event_of s.who Unlock ∷ h.past)) go tied.told
   where
-    go : (h : History) → Knows (running_as o running (stage.Unlock how)) s h → Lawful h.start (event_of s.who Unlock ∷ h.past)
-    go h k =
-        let mine : lock_after h.past s.who ≡ Some Shared = k.agrees.holds ∙ tied.holds in
-        unlock_at_rest h.start h.past s.who k.agrees.lawful (subst (λ w. (1 ≤ w) × (w ≤ 64)) (sym tied.who) tied.maker)
-        (living (s.admitted s.who) (has_died h.past s.who) (sym k.agrees.ended ∙ tied.ended)) (some_lock h.start h.past s.who Shared mine) (rests_shared h.start h.past s.who k.agrees.lawful mine)
+    alive : s.ended ≡ false
+    alive = tied.ended
 
--- and so may that of a hold
-pub may_release : (o : OpenerState) (running : Running) (s : ShareState) → Tied (running_as o running stage.Release) s → MayMake Unlock s
-may_release o running s tied =
-    told_map s.told (Knows (running_as o running stage.Release) s) (λ h. Lawful h.start (event_of s.who Unlock ∷ h.past)) go tied.told
-  where
-    go : (h : History) → Knows (running_as o running stage.Release) s h → Lawful h.start (event_of s.who Unlock ∷ h.past)
+    go : (h : History) → Knows (running_as o running stage) s h → Lawful h.start (event_of s.who Unlock ∷ h.past)
     go h k =
-        let mine : lock_after h.past s.who ≡ Some Exclusive = k.agrees.holds ∙ tied.holds in
+        let mine = k.agrees.holds ∙ tied.holds in
         unlock_at_rest h.start h.past s.who k.agrees.lawful (subst (λ w. (1 ≤ w) × (w ≤ 64)) (sym tied.who) tied.maker)
-        (living (s.admitted s.who) (has_died h.past s.who) (sym k.agrees.ended ∙ tied.ended)) (some_lock h.start h.past s.who Exclusive mine) (k.facts.rests tied.at)
+        (living (s.admitted s.who) (has_died h.past s.who) (sym k.agrees.ended ∙ alive)) (holds_some (locks_after h.past) s.who (λ e. some (sym mine ∙ e)))
+        (rests_locked o running stage h.start h.past s.who k.agrees.lawful k.facts calm (lock_by o.holds running.taken) refl some mine)

@@ -1,10 +1,12 @@
 -- How a call begins.
-use Rattle.std.specs.Prelude.{◌≡◌, ℕ, ◌^◌, List, Option, Some, None, length, nat_lt, nat_le, ◌==◌, ◌||◌, if◌then◌else◌}
+use Rattle.std.specs.Prelude.{◌≡◌, ℕ, ◌^◌, ⊤, Bool, true, false, List, Option, Some, None, length, nat_lt, nat_le, ◌==◌, ◌||◌, ◌&&◌, if◌then◌else◌}
 use Rattle.change_log.specs.declared.call.Call.{Call}
 use Rattle.change_log.specs.declared.call.Call.TheVariants as call
+use Rattle.region_words.specs.Rows.{AreBytes}
 use Rattle.loader.specs.declared.loaded.Image.{Image}
 use Rattle.opener.specs.State.{OpenerState}
-use Rattle.opener.specs.Ends.{Reads}
+use Rattle.opener.specs.Calls.{is_write}
+use Rattle.opener.specs.Ends.{Notices}
 use Rattle.opener.specs.declared.calls.Refused.{Refused}
 use Rattle.opener.specs.declared.calls.Refused.TheVariants as why
 use Rattle.opener.specs.declared.work.Running.{Running}
@@ -32,6 +34,12 @@ call_refusal call.Release holds = if holds == 0 then Some why.NotHeld else None
 call_refusal call.Hold holds = if nat_le 1000 holds then Some why.TooDeep else None
 call_refusal _ holds = None
 
+-- key and value are bytes
+abbrev pub HasBytes : Call → Type 0
+HasBytes (call.Put key value seconds) = AreBytes key × AreBytes value
+HasBytes (call.Remove key) = AreBytes key
+HasBytes _ = ⊤
+
 -- the first reason for which a call isn't begun
 abbrev pub refusal_at : Work → Call → ℕ → Option Refused
 refusal_at Idle asked holds = call_refusal asked holds
@@ -41,19 +49,19 @@ refusal_at (Runs running next) asked holds = Some why.CallRunning
 abbrev pub refusal : OpenerState → Call → Option Refused
 refusal o asked = refusal_at o.work asked o.holds
 
--- a read begins with a look at the checksum where an image is kept
-abbrev pub IsFirstRead : Option Image → ℕ → Stage → Type 0
-IsFirstRead None holds next = Reads holds next
-IsFirstRead (Some i) holds next = next ≡ stage.PeekChecksum
+-- a write asks for the lock first where nothing is held; another call looks at the region at once
+abbrev pub IsFirstPlain : Bool → Option Image → ℕ → Stage → Type 0
+IsFirstPlain true image holds next = next ≡ stage.LockExclusive
+IsFirstPlain false image holds next = Notices image holds None next
 
 abbrev pub IsFirst : Option Image → ℕ → Call → Stage → Type 0
 IsFirst image holds call.Hold next = next ≡ stage.Hold
 IsFirst image holds call.Release next = next ≡ stage.Release
-IsFirst image holds _ next = IsFirstRead image holds next
+IsFirst image holds asked next = IsFirstPlain (is_write asked && (holds == 0)) image holds next
 
 -- a call of which nothing is made yet
 abbrev pub begun_at : Call → ℕ → ℕ → Running
-begun_at asked now changes = record { call = asked; now = now; begun = changes; loads = 0; locks = 0 }
+begun_at asked now changes = record { call = asked; now = now; begun = changes; taken = None; loads = 0; stores = 0; locks = 0 }
 
 -- the call runs, and has made no step
 pub record Begins (asked : Call) (now changes : ℕ) (old new : OpenerState) : Type 0 where

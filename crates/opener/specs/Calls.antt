@@ -1,5 +1,5 @@
--- Calls that run, and how they stop.
-use Rattle.std.specs.Prelude.{◌≡◌, None, ⊤}
+-- Calls, what they ask of an opener, and how they stop.
+use Rattle.std.specs.Prelude.{◌≡◌, ℕ, ◌+◌, ◌-◌, Bool, true, false, None, ⊤}
 use Rattle.region_words.specs.declared.stops.ShareStop.{ShareStop}
 use Rattle.region_words.specs.declared.stops.ShareStop.TheVariants as stop
 use Rattle.change_log.specs.declared.call.Call.{Call}
@@ -11,6 +11,7 @@ use Rattle.opener.specs.declared.work.Running.{Running}
 use Rattle.opener.specs.declared.work.Stage.{Stage}
 use Rattle.opener.specs.declared.work.Work.TheVariants.{Idle, Ended, Runs}
 use Rattle.opener.specs.State.{OpenerState}
+use Rattle.opener.specs.Plans.{CanWrite}
 
 -- the opener keeps no image and runs no call
 abbrev pub IsGivenUp : OpenerState → OpenerState → Type 0
@@ -24,12 +25,29 @@ AfterStop stop.Failed old running stage result new =
 AfterStop stop.Memory old running stage result new = (result ≡ step.Stopped why.Memory) × IsGivenUp old new
 AfterStop stop.JournalFull old running stage result new = (result ≡ step.Stopped why.JournalFull) × IsGivenUp old new
 
--- a call that finds a map or a lock, and changes nothing
-abbrev pub IsRead : Call → Type 0
-IsRead (call.Get key) = ⊤
-IsRead call.Keys = ⊤
-IsRead call.Count = ⊤
-IsRead call.Sync = ⊤
-IsRead call.Hold = ⊤
-IsRead call.Release = ⊤
-IsRead _ = ⊥
+-- the calls so far: all but those that switch the expiry
+abbrev pub IsBuilt : Call → Type 0
+IsBuilt (call.Enable seconds) = ⊥
+IsBuilt call.Disable = ⊥
+IsBuilt _ = ⊤
+
+-- a call that changes the map
+abbrev pub is_write : Call → Bool
+is_write (call.Put key value seconds) = true
+is_write (call.Remove key) = true
+is_write call.Clear = true
+is_write _ = false
+
+-- a call that finds a map, or changes it
+abbrev pub IsPlain : Call → Type 0
+IsPlain (call.Get key) = ⊤
+IsPlain call.Keys = ⊤
+IsPlain call.Count = ⊤
+IsPlain call.Sync = ⊤
+IsPlain asked = CanWrite asked
+
+-- how many holds an answered call leaves
+abbrev pub holds_after : Call → ℕ → ℕ
+holds_after call.Hold holds = holds + 1
+holds_after call.Release holds = holds - 1
+holds_after _ holds = holds

@@ -1,21 +1,30 @@
 -- What an opener is left with after a stage.
-use Rattle.std.specs.Prelude.{◌≡◌, ℕ, ◌⊎◌, Bool, true, false, Option, Some, None, ◌==◌, ◌&&◌, if◌then◌else◌}
+use Rattle.std.specs.Prelude.{◌≡◌, ℕ, ◌-◌, ◌⊎◌, Bool, true, false, Option, Some, None, max, ◌==◌, ◌&&◌, if◌then◌else◌, ⊤}
+use Rattle.expiring_map.specs.Map.{Map}
 use Rattle.change_log.specs.History.{reply_in}
 use Rattle.change_log.specs.declared.call.Reply.{Reply}
 use Rattle.change_log.specs.declared.call.Reply.TheVariants.{Done}
 use Rattle.change_log.specs.declared.call.Answer.{Answer}
+use Rattle.lock_rules.specs.declared.table.LockKind.{LockKind}
+use Rattle.lock_rules.specs.declared.table.LockKind.TheVariants.{Exclusive}
 use Rattle.meta_record.specs.declared.record.RecordFault.{RecordFault}
 use Rattle.meta_record.specs.declared.record.RecordFault.TheVariants as fault
+use Rattle.meta_record.specs.declared.shown.Shown.{Shown}
 use Rattle.meta_record.specs.declared.shown.Shown.TheVariants.{Whole}
 use Rattle.region_words.specs.Region.{Region}
+use Rattle.region_words.specs.Making.{Making}
+use Rattle.region_words.specs.declared.standing.Standing.{Standing}
 use Rattle.region_words.specs.declared.stops.Peek.{Peek}
 use Rattle.loader.specs.Loads.{Load, HasLoaded, is_done}
 use Rattle.loader.specs.declared.loaded.Image.{Image}
 use Rattle.loader.specs.declared.loaded.Loaded.{Loaded}
+use Rattle.opener.specs.Calls.{is_write}
+use Rattle.opener.specs.Plans.{IsSoundImage}
 use Rattle.opener.specs.declared.calls.Step.{Step}
 use Rattle.opener.specs.declared.calls.Step.TheVariants as step
 use Rattle.opener.specs.declared.calls.Stop.{Stop}
 use Rattle.opener.specs.declared.calls.Stop.TheVariants as why
+use Rattle.opener.specs.declared.plan.Plan.TheVariants.{Append}
 use Rattle.opener.specs.declared.work.Running.{Running}
 use Rattle.opener.specs.declared.work.End.{End}
 use Rattle.opener.specs.declared.work.End.TheVariants as end
@@ -36,7 +45,7 @@ answer_of who running place ended reply =
       ended = ended;
       reply = reply;
       loads = running.loads;
-      stores = 0;
+      stores = running.stores;
       locks = running.locks;
     }
 
@@ -64,41 +73,82 @@ GoesOn running stage old result new = (result ≡ step.Going) × (new ≡ record
 abbrev pub Waits : Running → Stage → ℕ → OpenerState → Step → OpenerState → Type 0
 Waits running stage holder old result new = (result ≡ step.Blocked holder) × (new ≡ record old { work = Runs running stage })
 
--- without a hold the lock is given up first
-abbrev pub LeavesBy : Bool → Running → End → ℕ → OpenerState → Step → OpenerState → Type 0
-LeavesBy true running how ended old result new = GoesOn running (stage.Unlock how) old result new
-LeavesBy false running how ended old result new = Finishes running how ended old result new
+-- a lock that the call has taken itself is given up first
+abbrev pub LeavesBy : Option LockKind → Running → End → ℕ → OpenerState → Step → OpenerState → Type 0
+LeavesBy None running how ended old result new = Finishes running how ended old result new
+LeavesBy (Some kind) running how ended old result new = GoesOn running (stage.Unlock how) old result new
 
 abbrev pub Leaves : Running → End → ℕ → OpenerState → Step → OpenerState → Type 0
-Leaves running how ended old result new = LeavesBy (old.holds == 0) running how ended old result new
+Leaves running how ended old result new = LeavesBy running.taken running how ended old result new
 
 -- a load of which nothing is made yet
 pub record IsFresh (l : Load) : Type 0 where
   pub going : is_done l ≡ false
   pub told : (r : Region) → HasLoaded l r
 
--- the region is loaded next, under the hold or under a shared lock
-abbrev pub ReadsBy : Bool → Stage → Type 0
-ReadsBy true next = next ≡ stage.LockShared
-ReadsBy false next = (loading : Load) × (next ≡ stage.Load loading) × IsFresh loading
+-- the lock that is held beside so many holds by a call that has taken this one
+abbrev pub lock_by : ℕ → Option LockKind → Option LockKind
+lock_by holds taken = if holds == 0 then taken else Some Exclusive
 
-abbrev pub Reads : ℕ → Stage → Type 0
-Reads holds next = ReadsBy (holds == 0) next
+-- the region is loaded next, or a shared lock is asked for where nothing is held
+abbrev pub ReadsBy : Option LockKind → Stage → Type 0
+ReadsBy None next = next ≡ stage.LockShared
+ReadsBy (Some kind) next = (loading : Load) × (next ≡ stage.Load loading) × IsFresh loading
 
--- the image, where both peeks gave its words
-abbrev pub current : Option Image → Peek → ℕ → Option Image
-current None peek sequence = None
-current (Some i) peek sequence = if (i.standing.checksum == peek.checksum) && (i.standing.sequence == sequence) then Some i else None
+abbrev pub Reads : ℕ → Option LockKind → Stage → Type 0
+Reads holds taken next = ReadsBy (lock_by holds taken) next
+
+-- a look at the checksum is next where an image is kept, and a load where none is
+abbrev pub Notices : Option Image → ℕ → Option LockKind → Stage → Type 0
+Notices None holds taken next = Reads holds taken next
+Notices (Some i) holds taken next = next ≡ stage.PeekChecksum
+
+-- this holds of the image that is kept
+abbrev pub OnImage : Option Image → (Image → Type 0) → Type 0
+OnImage None P = ⊤
+OnImage (Some i) P = P i
+
+-- both peeks gave the words of the image that is kept
+abbrev pub is_current : Option Image → Peek → ℕ → Bool
+is_current None peek sequence = false
+is_current (Some i) peek sequence = (i.standing.checksum == peek.checksum) && (i.standing.sequence == sequence)
 
 -- the call ends with the reply of this map, or memory is short
 abbrev pub Replies : Running → Image → ℕ → End → Type 0
 Replies running i place how =
     ((reply : Reply) × (reply ≡ reply_in i.map running.now running.call) × (how ≡ end.Answer place reply)) ⊎ (how ≡ end.Stop why.Memory)
 
--- a whole image is kept and answers the call; without one the call stops
-abbrev pub EndsLoad : Running → Loaded → ℕ → OpenerState → End → OpenerState → Type 0
-EndsLoad running loaded place old how new =
-    ((n : ℕ) × (loaded.shown ≡ Whole n) × (reply : Reply) × (reply ≡ reply_in loaded.image.map running.now running.call)
-    × (how ≡ end.Answer place reply) × (new ≡ record old { image = Some loaded.image }))
-    ⊎ ((how ≡ end.Stop why.Memory) × (new ≡ old))
-    ⊎ ((how ≡ end.Stop (why.NotWhole loaded.shown)) × (new ≡ old))
+-- a write goes on to the file's size, and another call is answered by the image
+abbrev pub IsReadyBy : Bool → Running → ℕ → ℕ → OpenerState → Step → OpenerState → Type 0
+IsReadyBy true running place ended old result new = GoesOn running stage.Size old result new
+IsReadyBy false running place ended old result new =
+    (how : End) × OnImage old.image (λ i. Replies running i place how) × Leaves running how ended old result new
+
+abbrev pub IsReady : Running → ℕ → ℕ → OpenerState → Step → OpenerState → Type 0
+IsReady running place ended old result new = IsReadyBy (is_write running.call) running place ended old result new
+
+-- a whole image is kept; without one the call stops
+abbrev pub IsLoadedBy : Shown → Running → Loaded → ℕ → OpenerState → Step → OpenerState → Type 0
+IsLoadedBy (Whole n) running loaded place old result new = IsReady running place place (record old { image = Some loaded.image }) result new
+IsLoadedBy shown running loaded place old result new = Leaves running (end.Stop (why.NotWhole shown)) place old result new
+
+abbrev pub IsLoaded : Running → Loaded → ℕ → OpenerState → Step → OpenerState → Type 0
+IsLoaded running loaded place old result new = IsLoadedBy loaded.shown running loaded place old result new
+
+-- the image, with the size of the file that was asked for: a file never shrinks
+abbrev pub sized_image : Image → ℕ → Image
+sized_image i size = record i { standing = record i.standing { file_size = max size i.standing.file_size } }
+
+-- an image is kept, and it is sound beside a file of this size
+abbrev pub IsKeptSound : Option Image → ℕ → Type 0
+IsKeptSound None size = ⊥
+IsKeptSound (Some i) size = IsSoundImage (sized_image i size)
+
+-- all is stored: the call's change is the last of so many, and the image is kept
+abbrev pub Written : Running → Image → ℕ → OpenerState → Step → OpenerState → Type 0
+Written running image ended old result new = Leaves running (end.Answer (ended - 1) Done) ended (record old { image = Some image }) result new
+
+-- the pairs are written anew: an item is appended next, or the call ends
+abbrev pub Rewritten : Running → Standing → Option Making → Map → ℕ → OpenerState → Step → OpenerState → Type 0
+Rewritten running standing (Some appending) map ended old result new = GoesOn running (stage.Store (Append appending map)) old result new
+Rewritten running standing None map ended old result new = Written running (record { standing = standing; map = map }) ended old result new

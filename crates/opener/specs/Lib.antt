@@ -1,6 +1,9 @@
 pub mod Continues
 pub mod State
+pub mod Counted
 pub mod Calls
+pub mod Plans
 pub mod Ends
 pub mod Begins
+pub mod Writes
 pub mod Opener

@@ -37,6 +37,18 @@ pub enum Stop {
     Version(u32),
     #[error("the record has unknown flags: {0}")]
     Flags(u64),
+    /// A data file of so many bytes would be needed, more than the greatest has.
+    #[error("the store is full: {need} bytes are needed")]
+    Full { need: u64 },
+    /// The sequence is 2^32 - 1, and the pairs would have to be written anew.
+    #[error("the sequence is at its end")]
+    SequenceEnd,
+    /// The pairs of this store have no expiry.
+    #[error("pairs can't expire in this store")]
+    ExpiryOff,
+    /// The pair would expire after second 2^32 - 1.
+    #[error("the expiry is past 32 bits")]
+    ExpiryRange,
 }
 
 /// Why a call is not begun. The first that holds is named.

@@ -1,11 +1,13 @@
 // An opener: what it keeps between its calls, and its steps.
 ghost use Rattle.std.specs.Prelude.{◌≡◌, ◌≤◌, None, Some, IfOk, IfErr, OnErr, OnOk};
 ghost use Rattle.region_words.specs.Told.{OnTold, changes_told as changes_seen};
-ghost use Rattle.opener.specs.Calls.{IsRead};
-ghost use Rattle.opener.specs.Begins.{Begins, IsFirst, begun_at, refusal};
+ghost use Rattle.opener.specs.Calls.{IsBuilt};
+ghost use Rattle.opener.specs.Begins.{Begins, HasBytes, IsFirst, begun_at, refusal};
 ghost use Rattle.opener.specs.Opener.{Tied, running_as, HasCause, IsAnswer, KeepsCall, KeepsWork, OnAnswer, MakesOne};
 
 use crate::calls::{NotBegun, Refused, Step};
+use crate::plan::Plan;
+use crate::reads::is_write;
 use crate::refusals::refusal;
 use crate::work::{Running, Stage, Work};
 use change_log::Call;
@@ -57,11 +59,11 @@ impl Opener {
         }
     }
 
-    /// Begins a call at a moment, in seconds. So far the calls are those that change nothing: `Get`, `Keys`, `Count`, `Sync`,
-    /// `Hold` and `Release`. Where it is refused, nothing changes.
+    /// Begins a call at a moment, in seconds. So far `Enable` and `Disable` are not among the calls. Where it is refused,
+    /// nothing changes.
     pub fn begin<S: Share>(&mut self, share: &S, call: Call, now: u32) -> Result<(), NotBegun>
         requires tied { Tied self.old (S.state share.now) }
-        requires built { IsRead call }
+        requires built { IsBuilt call }
         ensures tied { Tied self.new (S.state share.now) }
         ensures ok { OnOk result (Begins call now (changes_seen (S.state share.now).told) self.old self.new) }
         ensures first { OnOk result (refusal self.old call ≡ None) }
@@ -84,7 +86,8 @@ impl Opener {
     }
 
     fn refusal(&self, call: &Call) -> Option<Refused>
-        ensures { result ≡ refusal self.now call.now }
+        ensures why { result ≡ refusal self.now call.now }
+        ensures bytes { result ≡ None → HasBytes call.now }
     {
         match self.work {
             Work::Idle => refusal(call, self.holds),
@@ -99,8 +102,8 @@ impl Opener {
         match call {
             Call::Hold => Stage::Hold,
             Call::Release => Stage::Release,
-            _ if self.image.is_some() => Stage::PeekChecksum,
-            _ => self.reading(),
+            _ if is_write(call) && self.holds == 0 => Stage::LockExclusive,
+            _ => self.noticing(None),
         }
     }
 
@@ -110,7 +113,7 @@ impl Opener {
         ensures tied { Tied self.new (S.state share.new) }
         ensures makes { MakesOne (S.state share.old) (S.state share.new) }
         ensures call { KeepsWork self.old result self.new }
-        ensures cause { HasCause result (S.state share.old) (S.state share.new) }
+        ensures cause { HasCause self.old.work result self.new.work (S.state share.old) (S.state share.new) }
         ensures answer { OnAnswer result (λ a. OnTold (S.state share.new).told (λ h. IsAnswer a h.start h.past)) }
     {
         match mem::replace(&mut self.work, Work::Idle) {
@@ -127,15 +130,28 @@ impl Opener {
         requires { Tied (running_as self.old running stage) (S.state share.old) }
         ensures tied { Tied self.new (S.state share.new) }
         ensures makes { MakesOne (S.state share.old) (S.state share.new) }
-        ensures call { KeepsCall self.old.who running result self.new.work }
-        ensures cause { HasCause result (S.state share.old) (S.state share.new) }
+        ensures call { KeepsCall self.old.who self.old.holds running result self.new }
+        ensures cause { HasCause (Work.Runs running stage) result self.new.work (S.state share.old) (S.state share.new) }
         ensures answer { OnAnswer result (λ a. OnTold (S.state share.new).told (λ h. IsAnswer a h.start h.past)) }
     {
         match stage {
             Stage::PeekChecksum => self.peek_checksum(share, running),
             Stage::PeekSequence(peek) => self.peek_sequence(share, running, peek),
             Stage::LockShared => self.lock_shared(share, running),
+            Stage::LockExclusive => self.lock_exclusive(share, running),
             Stage::Load(loading) => self.load(share, running, loading),
+            Stage::Size => self.size(share, running),
+            Stage::Reserve(plan) => self.reserve(share, running, plan),
+            Stage::Store(Plan::Append { appending, map }) => {
+                self.append(share, running, appending, map)
+            }
+            Stage::Store(
+                Plan::Rewrite {
+                    rewriting,
+                    then,
+                    map,
+                },
+            ) => self.rewrite(share, running, rewriting, then, map),
             Stage::Unlock(end) => self.unlock(share, running, end),
             Stage::Hold => self.hold(share, running),
             Stage::Release => self.release(share, running),
@@ -150,7 +166,9 @@ fn begun_at(call: Call, now: u32, begun: u32) -> Running
         call,
         now,
         begun,
+        taken: None,
         loads: 0,
+        stores: 0,
         locks: 0,
     }
 }

@@ -1,15 +1,17 @@
 // The stages of a read and of a hold, each with one call on the share.
 ghost use Rattle.std.specs.Prelude.{◌≡◌, ◌<◌, ◌≤◌, IfOk, OnOk};
 ghost use Rattle.region_words.specs.Told.{OnTold};
+ghost use Rattle.opener.specs.Calls.{is_write};
 ghost use Rattle.opener.specs.Ends.{Replies, answer_of, stop_of};
+ghost use Rattle.opener.specs.declared.work.Work.TheVariants.{Runs};
 ghost use Rattle.opener.specs.Opener.{Tied, running_as, HasCause, IsAnswer, KeepsCall, OnAnswer, MakesOne};
 
 use crate::calls::{Step, Stop};
 use crate::opener::Opener;
 use crate::reply::reply_in;
 use crate::work::{End, Running, Stage, Work};
-use change_log::{Answer, Reply};
-use loader::{Image, LoadStop, Loaded, Loading, Went};
+use change_log::{Answer, Call, Reply};
+use loader::{LoadStop, Loaded, Loading, Went};
 use lock_rules::{LockKind, Tried};
 use meta_record::{RecordFault, Shown};
 use region_words::{Peek, Share, ShareStop};
@@ -20,8 +22,8 @@ impl Opener {
         requires { Tied (running_as self.old running Stage.PeekChecksum) (S.state share.old) }
         ensures tied { Tied self.new (S.state share.new) }
         ensures makes { MakesOne (S.state share.old) (S.state share.new) }
-        ensures call { KeepsCall self.old.who running result self.new.work }
-        ensures cause { HasCause result (S.state share.old) (S.state share.new) }
+        ensures call { KeepsCall self.old.who self.old.holds running result self.new }
+        ensures cause { HasCause (Runs running Stage.PeekChecksum) result self.new.work (S.state share.old) (S.state share.new) }
         ensures answer { OnAnswer result (λ a. OnTold (S.state share.new).told (λ h. IsAnswer a h.start h.past)) }
     {
         match share.peek_checksum() {
@@ -39,17 +41,16 @@ impl Opener {
         requires { Tied (running_as self.old running (Stage.PeekSequence peek)) (S.state share.old) }
         ensures tied { Tied self.new (S.state share.new) }
         ensures makes { MakesOne (S.state share.old) (S.state share.new) }
-        ensures call { KeepsCall self.old.who running result self.new.work }
-        ensures cause { HasCause result (S.state share.old) (S.state share.new) }
+        ensures call { KeepsCall self.old.who self.old.holds running result self.new }
+        ensures cause { HasCause (Runs running (Stage.PeekSequence peek)) result self.new.work (S.state share.old) (S.state share.new) }
         ensures answer { OnAnswer result (λ a. OnTold (S.state share.new).told (λ h. IsAnswer a h.start h.past)) }
     {
         match share.peek_sequence() {
             Ok(sequence) => {
-                if let Some(image) = self.current(peek, sequence) {
-                    let end = end_with(self.alloc, image, &running, peek.changes);
-                    return self.finish(running.with_load(), end, share.changes());
+                if self.is_current(peek, sequence) {
+                    return self.ready(running.with_load(), peek.changes, share.changes());
                 }
-                let stage = self.reading();
+                let stage = self.reading(running.taken);
                 self.going(running.with_load(), stage)
             }
             Err(stop) => self.stopped(stop, running, Stage::PeekSequence(peek)),
@@ -60,14 +61,14 @@ impl Opener {
         requires { Tied (running_as self.old running Stage.LockShared) (S.state share.old) }
         ensures tied { Tied self.new (S.state share.new) }
         ensures makes { MakesOne (S.state share.old) (S.state share.new) }
-        ensures call { KeepsCall self.old.who running result self.new.work }
-        ensures cause { HasCause result (S.state share.old) (S.state share.new) }
+        ensures call { KeepsCall self.old.who self.old.holds running result self.new }
+        ensures cause { HasCause (Runs running Stage.LockShared) result self.new.work (S.state share.old) (S.state share.new) }
         ensures answer { OnAnswer result (λ a. OnTold (S.state share.new).told (λ h. IsAnswer a h.start h.past)) }
     {
         match share.try_lock(LockKind::Shared) {
             Ok(Tried::Taken) => {
                 let loading = Loading::full(self.alloc);
-                self.going(running.with_lock(), Stage::Load(loading))
+                self.going(running.with_lock(LockKind::Shared), Stage::Load(loading))
             }
             Ok(Tried::Busy(holder)) => self.blocked(running, Stage::LockShared, holder),
             Err(stop) => self.stopped(stop, running, Stage::LockShared),
@@ -83,17 +84,15 @@ impl Opener {
         requires { Tied (running_as self.old running (Stage.Load loading)) (S.state share.old) }
         ensures tied { Tied self.new (S.state share.new) }
         ensures makes { MakesOne (S.state share.old) (S.state share.new) }
-        ensures call { KeepsCall self.old.who running result self.new.work }
-        ensures cause { HasCause result (S.state share.old) (S.state share.new) }
+        ensures call { KeepsCall self.old.who self.old.holds running result self.new }
+        ensures cause { HasCause (Runs running (Stage.Load loading)) result self.new.work (S.state share.old) (S.state share.new) }
         ensures answer { OnAnswer result (λ a. OnTold (S.state share.new).told (λ h. IsAnswer a h.start h.past)) }
     {
         let mut loading = loading;
         match loading.step(share) {
             Ok(Went::Going) => self.going(running.with_load(), Stage::Load(loading)),
             Ok(Went::Done) => {
-                let place = share.changes();
-                let end = self.loaded(&running, loading.finish(), place);
-                self.leave(running.with_load(), end, place)
+                self.loaded(running.with_load(), loading.finish(), share.changes())
             }
             Err(LoadStop::Share(stop)) => self.stopped(stop, running, Stage::Load(loading)),
             Err(LoadStop::Record(fault)) => {
@@ -111,8 +110,8 @@ impl Opener {
         requires { Tied (running_as self.old running (Stage.Unlock end)) (S.state share.old) }
         ensures tied { Tied self.new (S.state share.new) }
         ensures makes { MakesOne (S.state share.old) (S.state share.new) }
-        ensures call { KeepsCall self.old.who running result self.new.work }
-        ensures cause { HasCause result (S.state share.old) (S.state share.new) }
+        ensures call { KeepsCall self.old.who self.old.holds running result self.new }
+        ensures cause { HasCause (Runs running (Stage.Unlock end)) result self.new.work (S.state share.old) (S.state share.new) }
         ensures answer { OnAnswer result (λ a. OnTold (S.state share.new).told (λ h. IsAnswer a h.start h.past)) }
     {
         match share.unlock() {
@@ -125,8 +124,8 @@ impl Opener {
         requires { Tied (running_as self.old running Stage.Hold) (S.state share.old) }
         ensures tied { Tied self.new (S.state share.new) }
         ensures makes { MakesOne (S.state share.old) (S.state share.new) }
-        ensures call { KeepsCall self.old.who running result self.new.work }
-        ensures cause { HasCause result (S.state share.old) (S.state share.new) }
+        ensures call { KeepsCall self.old.who self.old.holds running result self.new }
+        ensures cause { HasCause (Runs running Stage.Hold) result self.new.work (S.state share.old) (S.state share.new) }
         ensures answer { OnAnswer result (λ a. OnTold (S.state share.new).told (λ h. IsAnswer a h.start h.past)) }
     {
         if self.holds > 0 {
@@ -134,7 +133,11 @@ impl Opener {
             return self.done(running, holds, share.changes());
         }
         match share.try_lock(LockKind::Exclusive) {
-            Ok(Tried::Taken) => self.done(running.with_lock(), 1, share.changes()),
+            Ok(Tried::Taken) => self.done(
+                running.with_lock(LockKind::Exclusive),
+                1,
+                share.changes(),
+            ),
             Ok(Tried::Busy(holder)) => self.blocked(running, Stage::Hold, holder),
             Err(stop) => self.stopped(stop, running, Stage::Hold),
         }
@@ -144,8 +147,8 @@ impl Opener {
         requires { Tied (running_as self.old running Stage.Release) (S.state share.old) }
         ensures tied { Tied self.new (S.state share.new) }
         ensures makes { MakesOne (S.state share.old) (S.state share.new) }
-        ensures call { KeepsCall self.old.who running result self.new.work }
-        ensures cause { HasCause result (S.state share.old) (S.state share.new) }
+        ensures call { KeepsCall self.old.who self.old.holds running result self.new }
+        ensures cause { HasCause (Runs running Stage.Release) result self.new.work (S.state share.old) (S.state share.new) }
         ensures answer { OnAnswer result (λ a. OnTold (S.state share.new).told (λ h. IsAnswer a h.start h.past)) }
     {
         if self.holds > 1 {
@@ -161,13 +164,12 @@ impl Opener {
 
 // What an opener is left with.
 impl Opener {
-    ghost use Rattle.std.specs.Prelude.{◌≡◌, ◌<◌, ◌≤◌, None, Some, true, false, if◌then◌else◌, ◌==◌};
+    ghost use Rattle.std.specs.Prelude.{◌≡◌, ◌≢◌, ◌<◌, ◌≤◌, None, Some};
     ghost use Rattle.opener.specs.Calls.{AfterStop};
-    ghost use Rattle.opener.specs.Ends.{GoesOn, Waits, IsDone, Finishes, Leaves, EndsLoad, Reads, current};
-    ghost use Rattle.std.specs.Prelude.{option_copied};
+    ghost use Rattle.opener.specs.Ends.{GoesOn, Waits, IsDone, Finishes, Leaves, Reads, Notices, IsLoaded, IsReady, OnImage, is_current};
 
     // The call goes on with this stage.
-    fn going(&mut self, running: Running, stage: Stage) -> Step
+    pub(crate) fn going(&mut self, running: Running, stage: Stage) -> Step
         ensures { GoesOn running stage self.old result self.new }
     {
         self.work = Work::Runs { running, stage };
@@ -175,7 +177,7 @@ impl Opener {
     }
 
     // The call waits for this holder.
-    fn blocked(&mut self, running: Running, stage: Stage, holder: u32) -> Step
+    pub(crate) fn blocked(&mut self, running: Running, stage: Stage, holder: u32) -> Step
         ensures { Waits running stage holder self.old result self.new }
     {
         self.work = Work::Runs { running, stage };
@@ -183,24 +185,29 @@ impl Opener {
     }
 
     // A call on the share was not answered.
-    fn stopped(&mut self, stop: ShareStop, running: Running, stage: Stage) -> Step
+    pub(crate) fn stopped(&mut self, stop: ShareStop, running: Running, stage: Stage) -> Step
         ensures { AfterStop stop self.old running stage result self.new }
     {
+        self.work = Work::Runs { running, stage };
         match stop {
-            ShareStop::Turn => {
-                self.work = Work::Runs { running, stage };
-                Step::Again
-            }
-            ShareStop::Failed => {
-                self.handler = None;
-                self.holds = 0;
-                self.image = None;
-                self.work = Work::Ended;
-                Step::Stopped(Stop::Fault)
-            }
+            ShareStop::Turn => Step::Again,
+            ShareStop::Failed => self.die(),
             ShareStop::Memory => self.give_up(Stop::Memory),
             ShareStop::JournalFull => self.give_up(Stop::JournalFull),
         }
+    }
+
+    // The share failed, and the opener ends.
+    fn die(&mut self) -> Step
+        ensures step { result ≡ Step.Stopped Stop.Fault }
+        ensures who { self.new.who ≡ self.old.who }
+        ensures left { (self.new.holds ≡ 0) × (self.new.image ≡ None) × (self.new.work ≡ Work.Ended) }
+    {
+        self.handler = None;
+        self.holds = 0;
+        self.image = None;
+        self.work = Work::Ended;
+        Step::Stopped(Stop::Fault)
     }
 
     // The call is over, and the image is no longer kept.
@@ -235,65 +242,94 @@ impl Opener {
         Step::Answered(answer_of(self.who, running, place, place, Reply::Done))
     }
 
-    // Under a hold the call ends at once; else its shared lock is given up first.
-    fn leave(&mut self, running: Running, end: End, ended: u32) -> Step
+    // Where the call has taken no lock itself it ends at once; else its lock is given up first.
+    pub(crate) fn leave(&mut self, running: Running, end: End, ended: u32) -> Step
         ensures { Leaves running end ended self.old result self.new }
     {
-        if self.holds > 0 {
-            self.finish(running, end, ended)
-        } else {
-            self.going(running, Stage::Unlock(end))
+        match running.taken {
+            None => self.finish(running, end, ended),
+            Some(_) => self.going(running, Stage::Unlock(end)),
         }
     }
 
     // The stage that loads the region.
-    pub(crate) fn reading(&self) -> Stage
-        ensures { Reads self.now.holds result }
+    pub(crate) fn reading(&self, taken: Option<LockKind>) -> Stage
+        ensures { Reads self.now.holds taken result }
     {
-        if self.holds > 0 {
+        if self.holds > 0 || taken.is_some() {
             Stage::Load(Loading::full(self.alloc))
         } else {
             Stage::LockShared
         }
     }
 
-    // The image that is kept, where both peeks gave its words.
-    fn current(&self, peek: Peek, sequence: u32) -> Option<&Image>
-        ensures { option_copied result ≡ current self.now.image peek sequence }
+    // The stage that finds the region as it is: a look at the checksum where an image is kept, else a load.
+    pub(crate) fn noticing(&self, taken: Option<LockKind>) -> Stage
+        ensures { Notices self.now.image self.now.holds taken result }
     {
-        match &self.image {
-            Some(image)
-                if image.standing.checksum == peek.checksum
-                    && image.standing.sequence == sequence => { Some(image) }
-            _ => None,
+        if self.image.is_some() {
+            Stage::PeekChecksum
+        } else {
+            self.reading(taken)
         }
     }
 
-    // How a call ends that loaded this: with the reply of a whole image, which is kept.
-    fn loaded(&mut self, running: &Running, loaded: Loaded, place: u32) -> End
-        ensures { EndsLoad running.entry.now loaded place self.old result self.new }
+    // Whether both peeks gave the words of the image that is kept.
+    fn is_current(&self, peek: Peek, sequence: u32) -> bool
+        ensures { result ≡ is_current self.now.image peek sequence }
+    {
+        match &self.image {
+            Some(image) => {
+                image.standing.checksum == peek.checksum && image.standing.sequence == sequence
+            }
+            None => false,
+        }
+    }
+
+    // A load is done. A whole image is kept, and without one the call stops.
+    fn loaded(&mut self, running: Running, loaded: Loaded, place: u32) -> Step
+        ensures { IsLoaded running loaded place self.old result self.new }
     {
         let Shown::Whole(_) = loaded.shown else {
-            return End::Stop(Stop::NotWhole(loaded.shown));
+            let end = End::Stop(Stop::NotWhole(loaded.shown));
+            return self.leave(running, end, place);
         };
-        match reply_in(self.alloc, &loaded.image.map, running.now, &running.call) {
-            Ok(reply) => {
-                self.image = Some(loaded.image);
-                End::Answer { place, reply }
-            }
+        self.image = Some(loaded.image);
+        self.ready(running, place, place)
+    }
+
+    // The image that is kept is that of this place. A write goes on to its stores, and a read is answered.
+    fn ready(&mut self, running: Running, place: u32, ended: u32) -> Step
+        requires { self.old.image ≢ None }
+        ensures { IsReady running place ended self.old result self.new }
+    {
+        if is_write(&running.call) {
+            return self.going(running, Stage::Size);
+        }
+        let end = self.reply(&running, place);
+        self.leave(running, end, ended)
+    }
+
+    // How a call ends that the kept image answers.
+    fn reply(&self, running: &Running, place: u32) -> End
+        requires { self.now.image ≢ None }
+        ensures { OnImage self.now.image (λ i. Replies running.entry.now i place result) }
+    {
+        let Some(image) = &self.image else {
+            unreachable!()
+        };
+        match reply_in(self.alloc, &image.map, running.now, &running.call) {
+            Ok(reply) => End::Answer { place, reply },
             Err(_) => End::Stop(Stop::Memory),
         }
     }
 }
 
-// How a call ends that this image answers.
-fn end_with(alloc: Global, image: &Image, running: &Running, place: u32) -> End
-    ensures { Replies running.entry.now image.now place result }
+// Whether a call changes the map.
+pub(crate) fn is_write(call: &Call) -> bool
+    ensures { result ≡ is_write call.now }
 {
-    match reply_in(alloc, &image.map, running.now, &running.call) {
-        Ok(reply) => End::Answer { place, reply },
-        Err(_) => End::Stop(Stop::Memory),
-    }
+    matches!(call, Call::Put { .. } | Call::Remove { .. } | Call::Clear)
 }
 
 fn answer_of(who: u32, running: Running, place: u32, ended: u32, reply: Reply) -> Answer
@@ -308,7 +344,7 @@ fn answer_of(who: u32, running: Running, place: u32, ended: u32, reply: Reply) -
         ended,
         reply,
         loads: running.loads,
-        stores: 0,
+        stores: running.stores,
         locks: running.locks,
     }
 }

@@ -1,6 +1,7 @@
 // Which calls are begun.
 ghost use Rattle.std.specs.Prelude.{◌≡◌};
-ghost use Rattle.opener.specs.Begins.{call_refusal, key_refusal, pair_refusal};
+ghost use Rattle.region_words.specs.Rows.{AreBytes};
+ghost use Rattle.opener.specs.Begins.{HasBytes, call_refusal, key_refusal, pair_refusal};
 
 use crate::calls::Refused;
 use change_log::Call;
@@ -12,7 +13,8 @@ const LONGEST: usize = 1 << 27;
 
 /// Why a call is refused for what it is asked, beside so many holds.
 pub fn refusal(call: &Call, holds: u32) -> Option<Refused>
-    ensures { result ≡ call_refusal call.now holds }
+    ensures why { result ≡ call_refusal call.now holds }
+    ensures bytes { HasBytes call.now }
 {
     match call {
         Call::Get { key } | Call::Remove { key } => key_refusal(key.as_slice()),
@@ -24,7 +26,8 @@ pub fn refusal(call: &Call, holds: u32) -> Option<Refused>
 }
 
 fn key_refusal(key: &[u8]) -> Option<Refused>
-    ensures { result ≡ key_refusal key.now }
+    ensures why { result ≡ key_refusal key.now }
+    ensures bytes { AreBytes key.now }
 {
     if key.is_empty() {
         Some(Refused::EmptyKey)
@@ -36,7 +39,8 @@ fn key_refusal(key: &[u8]) -> Option<Refused>
 }
 
 fn pair_refusal(key: &[u8], value: &[u8]) -> Option<Refused>
-    ensures { result ≡ pair_refusal key.now value.now }
+    ensures why { result ≡ pair_refusal key.now value.now }
+    ensures bytes { AreBytes key.now × AreBytes value.now }
 {
     if key.is_empty() {
         Some(Refused::EmptyKey)

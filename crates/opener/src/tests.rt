@@ -1,7 +1,9 @@
 // Calls of an opener over a region in memory, step by step.
 ghost use Rattle.std.specs.Prelude.{◌≡◌, false, None, IfOk, IfSome};
 ghost use Rattle.region_words.specs.Local.{seat_state};
-ghost use Rattle.opener.specs.Calls.{IsRead};
+ghost use Rattle.region_words.specs.Region.{IsAccepted};
+ghost use Rattle.region_words.specs.Told.{OnTold};
+ghost use Rattle.opener.specs.Calls.{IsBuilt};
 ghost use Rattle.opener.specs.Opener.{Tied};
 
 use crate::{Opener, Refused, Step, Stop};
@@ -9,24 +11,26 @@ use change_log::{Answer, Call, Reply};
 use expiring_map::{Bytes, Memory};
 use handlers::{Handler, Steady, Strategy};
 use meta_record::Shown;
-use region_words::{LocalRegion, LocalSeat, Share};
+use region_words::{LocalRegion, LocalSeat, Share, shown};
 use std::alloc::Global;
 use std::test::Fail;
 
 // A store with the pair k, abc: its data and its meta file. The checksums are those of zlib.
-const BODY: [u8; 15] = *b"\x0b\0\0\0\xff\xff\xff\x07\x01k\x04\x03abc";
+pub const BODY: [u8; 15] = *b"\x0b\0\0\0\xff\xff\xff\x07\x01k\x04\x03abc";
 
-const META: [u8; 40] =
+pub const META: [u8; 40] =
     *b"\xd3\x95\x65\x3a\x03\0\0\0\x01\0\0\0\0\0\0\0\0\0\0\0\0\0\0\0\0\0\0\0\x0b\0\0\0\x04\0\0\0\xd1\x85\x99\x4c";
 
 // A seat at a region of these files. Its calls of the listed numbers fail.
 fn seat_at(alloc: Global, body: &[u8], meta: &[u8], fails: &[u64]) -> Option<LocalSeat>
     ensures alive { IfSome result (λ s. (seat_state s).ended ≡ false) }
     ensures free { IfSome result (λ s. (seat_state s).holds ≡ None) }
+    ensures accepted { IfSome result (λ s. OnTold (seat_state s).told (λ h. IsAccepted h.start)) }
 {
     let body = body.to_vec(alloc).ok()?;
     let meta = meta.to_vec(alloc).ok()?;
     let mut region = LocalRegion::new(alloc, body, meta).ok()?;
+    shown(region.data_bytes(), region.meta_bytes()).ok()?;
     region.fail_at(fails.to_vec(alloc).ok()?);
     region.admit(1).ok()?;
     Some(region.seat(1))
@@ -36,6 +40,7 @@ fn seat_at(alloc: Global, body: &[u8], meta: &[u8], fails: &[u64]) -> Option<Loc
 fn opener_of<S: Share>(alloc: Global, share: &S) -> Option<Opener>
     requires alive { (S.state share.now).ended ≡ false }
     requires free { (S.state share.now).holds ≡ None }
+    requires accepted { OnTold (S.state share.now).told (λ h. IsAccepted h.start) }
     ensures { IfSome result (λ o. Tied o (S.state share.now)) }
 {
     let handler: Box<dyn Handler + Send> = Box::new(
@@ -63,24 +68,24 @@ fn finish<S: Share>(opener: &mut Opener, share: &mut S, most: u32) -> Step
 // A whole call.
 fn ask<S: Share>(opener: &mut Opener, share: &mut S, call: Call, now: u32) -> Option<Step>
     requires tied { Tied opener.old (S.state share.old) }
-    requires built { IsRead call }
+    requires built { IsBuilt call }
     ensures { Tied opener.new (S.state share.new) }
 {
     match opener.begin(share, call, now) {
-        Ok(()) => Some(finish(opener, share, 1000)),
+        Ok(()) => Some(finish(opener, share, 4000)),
         Err(_) => None,
     }
 }
 
 // A new opener's first call, over a seat at these files.
-fn first_of(
+pub fn first_of(
     alloc: Global,
     body: &[u8],
     meta: &[u8],
     fails: &[u64],
     call: Call,
 ) -> Option<(Step, Opener)>
-    requires { IsRead call }
+    requires { IsBuilt call }
 {
     let mut seat = seat_at(alloc, body, meta, fails)?;
     let mut opener = opener_of(alloc, &seat)?;
@@ -88,15 +93,62 @@ fn first_of(
     Some((step, opener))
 }
 
-// The changes before the answer, and the loads and locks that it took.
-fn counts(step: &Option<Step>) -> Option<(u32, u32, u32)> {
-    match step {
-        Some(Step::Answered(answer)) => Some((answer.place, answer.loads, answer.locks)),
+// The header, which is the payload's size, and the bytes of the data file.
+fn sizes(seat: &LocalSeat) -> Option<(u32, usize)> {
+    match seat.region().data_bytes() {
+        [a, b, c, d, rest @ ..] => Some((u32::from_le_bytes([*a, *b, *c, *d]), 4 + rest.len())),
         _ => None,
     }
 }
 
-fn is_value(step: &Option<Step>, want: &[u8]) -> bool {
+// How three calls of one opener end, one after the other, and what stands then. One that was not begun has no end.
+#[derive(Drop)]
+pub struct Ends {
+    pub first: Option<Step>,
+    pub second: Option<Step>,
+    pub third: Option<Step>,
+    pub sizes: Option<(u32, usize)>,
+    pub events: usize,
+}
+
+// Three calls of a new opener, over a seat at these files.
+pub fn ends_of(
+    alloc: Global,
+    body: &[u8],
+    meta: &[u8],
+    first: Call,
+    second: Call,
+    third: Call,
+) -> Option<Ends>
+    requires first { IsBuilt first }
+    requires second { IsBuilt second }
+    requires third { IsBuilt third }
+{
+    let mut seat = seat_at(alloc, body, meta, &[])?;
+    let mut opener = opener_of(alloc, &seat)?;
+    let first = ask(&mut opener, &mut seat, first, 100);
+    let second = ask(&mut opener, &mut seat, second, 100);
+    let third = ask(&mut opener, &mut seat, third, 100);
+    Some(Ends {
+        first,
+        second,
+        third,
+        sizes: sizes(&seat),
+        events: seat.region().journal().len(),
+    })
+}
+
+// The changes before the answer, and the loads, stores and locks that it took.
+pub fn counts(step: &Option<Step>) -> Option<(u32, u32, u32, u32)> {
+    match step {
+        Some(Step::Answered(answer)) => {
+            Some((answer.place, answer.loads, answer.stores, answer.locks))
+        }
+        _ => None,
+    }
+}
+
+pub fn is_value(step: &Option<Step>, want: &[u8]) -> bool {
     match step {
         Some(Step::Answered(answer)) => match &answer.reply {
             Reply::Value(bytes) => bytes.as_slice() == want,
@@ -129,15 +181,15 @@ fn is_keys(step: &Option<Step>, want: &[u8]) -> bool {
     }
 }
 
-fn stop_of(step: &Option<(Step, Opener)>) -> Option<Stop> {
+pub fn stop_of(step: &Option<(Step, Opener)>) -> Option<Stop> {
     match step {
         Some((Step::Stopped(stop), _)) => Some(*stop),
         _ => None,
     }
 }
 
-fn get(alloc: Global) -> Result<Call, Memory>
-    ensures { IfOk result IsRead }
+pub fn get(alloc: Global) -> Result<Call, Memory>
+    ensures { IfOk result IsBuilt }
 {
     Ok(Call::Get {
         key: Bytes::copy_of(alloc, b"k")?,
@@ -147,42 +199,54 @@ fn get(alloc: Global) -> Result<Call, Memory>
 #[test]
 fn a_second_read_looks_at_two_words_and_takes_no_lock(rt: HostRuntime) -> Result<(), Fail> {
     let alloc = rt.alloc();
-    let mut seat = seat_at(alloc, &BODY, &META, &[]).expect(&rt, "ample memory");
-    let mut opener = opener_of(alloc, &seat).expect(&rt, "ample memory");
-    let first = ask(&mut opener, &mut seat, get(alloc)?, 100);
-    assert_eq!(rt; is_value(&first, b"\x03abc"), true);
-    assert_eq!(rt; counts(&first), Some((0, 13, 1)));
-    let second = ask(&mut opener, &mut seat, get(alloc)?, 100);
-    assert_eq!(rt; is_value(&second, b"\x03abc"), true);
-    assert_eq!(rt; counts(&second), Some((0, 2, 0)));
+    let ends = ends_of(alloc, &BODY, &META, get(alloc)?, get(alloc)?, Call::Sync).expect(
+        &rt,
+        "ample memory",
+    );
+    assert_eq!(rt; is_value(&ends.first, b"\x03abc"), true);
+    assert_eq!(rt; counts(&ends.first), Some((0, 13, 0, 1)));
+    assert_eq!(rt; is_value(&ends.second, b"\x03abc"), true);
+    assert_eq!(rt; counts(&ends.second), Some((0, 2, 0, 0)));
+    assert_eq!(rt; counts(&ends.third), Some((0, 2, 0, 0)));
     Ok(())
 }
 
 #[test]
 fn under_a_hold_nothing_is_locked_again(rt: HostRuntime) {
     let alloc = rt.alloc();
-    let mut seat = seat_at(alloc, &BODY, &META, &[]).expect(&rt, "ample memory");
-    let mut opener = opener_of(alloc, &seat).expect(&rt, "ample memory");
-    let held = ask(&mut opener, &mut seat, Call::Hold, 100);
-    assert_eq!(rt; counts(&held), Some((0, 0, 1)));
-    let again = ask(&mut opener, &mut seat, Call::Hold, 100);
-    assert_eq!(rt; counts(&again), Some((0, 0, 0)));
-    let keys = ask(&mut opener, &mut seat, Call::Keys, 100);
-    assert_eq!(rt; is_keys(&keys, b"k"), true);
-    assert_eq!(rt; counts(&keys), Some((0, 13, 0)));
-    let count = ask(&mut opener, &mut seat, Call::Count, 100);
-    assert_eq!(rt; is_count(&count, 1), true);
-    assert_eq!(rt; counts(&count), Some((0, 2, 0)));
-    let first = ask(&mut opener, &mut seat, Call::Release, 100);
-    assert_eq!(rt; counts(&first), Some((0, 0, 0)));
-    let last = ask(&mut opener, &mut seat, Call::Release, 100);
-    assert_eq!(rt; counts(&last), Some((0, 0, 0)));
-    let none = opener.begin(&seat, Call::Release, 100);
-    assert_eq!(rt;
-        none.err().map(|refused| refused.why),
-        Some(Refused::NotHeld)
+    let ends = ends_of(alloc, &BODY, &META, Call::Hold, Call::Keys, Call::Count).expect(
+        &rt,
+        "ample memory",
     );
-    assert_eq!(rt; seat.region().journal().len(), 2);
+    assert_eq!(rt; counts(&ends.first), Some((0, 0, 0, 1)));
+    assert_eq!(rt; is_keys(&ends.second, b"k"), true);
+    assert_eq!(rt; counts(&ends.second), Some((0, 13, 0, 0)));
+    assert_eq!(rt; is_count(&ends.third, 1), true);
+    assert_eq!(rt; counts(&ends.third), Some((0, 2, 0, 0)));
+}
+
+#[test]
+fn the_last_release_gives_the_lock_up(rt: HostRuntime) {
+    let alloc = rt.alloc();
+    let twice = ends_of(alloc, &BODY, &META, Call::Hold, Call::Hold, Call::Release).expect(
+        &rt,
+        "ample memory",
+    );
+    assert_eq!(rt; counts(&twice.second), Some((0, 0, 0, 0)));
+    assert_eq!(rt; counts(&twice.third), Some((0, 0, 0, 0)));
+    assert_eq!(rt; twice.events, 1);
+    let once = ends_of(
+        alloc,
+        &BODY,
+        &META,
+        Call::Hold,
+        Call::Release,
+        Call::Release,
+    )
+    .expect(&rt, "ample memory");
+    assert_eq!(rt; counts(&once.second), Some((0, 0, 0, 0)));
+    assert_eq!(rt; counts(&once.third), None);
+    assert_eq!(rt; once.events, 2);
 }
 
 #[test]
@@ -204,9 +268,6 @@ fn a_region_that_shows_no_whole_image_stops_the_call(rt: HostRuntime) {
     meta[28] = 4;
     let step = first_of(alloc, &BODY, &meta, &[], Call::Sync);
     assert_eq!(rt; stop_of(&step), Some(Stop::NotWhole(Shown::Header(11))));
-    meta[4] = 9;
-    let step = first_of(alloc, &BODY, &meta, &[], Call::Sync);
-    assert_eq!(rt; stop_of(&step), Some(Stop::Version(9)));
 }
 
 #[test]
@@ -220,6 +281,13 @@ fn a_call_with_an_empty_key_is_not_begun(rt: HostRuntime) {
         refused.err().map(|refused| refused.why),
         Some(Refused::EmptyKey)
     );
+}
+
+#[test]
+fn a_second_call_is_not_begun_while_one_runs(rt: HostRuntime) {
+    let alloc = rt.alloc();
+    let seat = seat_at(alloc, &BODY, &META, &[]).expect(&rt, "ample memory");
+    let mut opener = opener_of(alloc, &seat).expect(&rt, "ample memory");
     assert_eq!(rt; opener.begin(&seat, Call::Count, 100).is_ok(), true);
     let second = opener.begin(&seat, Call::Count, 100);
     assert_eq!(rt;

@@ -1,25 +1,31 @@
 // What an opener is at.
-ghost use Rattle.opener.specs.Continues.{SameCall};
+ghost use Rattle.std.specs.Prelude.{◌≡◌, ◌+◌, Some};
+ghost use Rattle.opener.specs.Counted.{counted, with_stored};
 
 use crate::calls::Stop;
+use crate::plan::Plan;
 use change_log::{Call, Reply};
 use loader::Loading;
-use region_words::Peek;
+use lock_rules::LockKind;
+use region_words::{Next, Peek};
 
-/// A call that runs, the number of changes at its begin, and the loads and locks that it has made.
+/// A call that runs: the number of changes at its begin, the lock that it has taken itself, and the loads, stores and locks
+/// that it has made.
 #[derive(Drop)]
 pub struct Running {
     pub call: Call,
     pub now: u32,
     pub begun: u32,
+    pub taken: Option<LockKind>,
     pub loads: u32,
+    pub stores: u32,
     pub locks: u32,
 }
 
 impl Running {
     /// One load more.
     pub fn with_load(self) -> Running
-        ensures { SameCall self result }
+        ensures { result ≡ record self { loads = counted (self.loads + 1) } }
     {
         Running {
             loads: self.loads.saturating_add(1),
@@ -27,13 +33,27 @@ impl Running {
         }
     }
 
-    /// One lock more.
-    pub fn with_lock(self) -> Running
-        ensures { SameCall self result }
+    /// One lock more, which is held from now on.
+    pub fn with_lock(self, kind: LockKind) -> Running
+        ensures { result ≡ record self { taken = Some kind; locks = counted (self.locks + 1) } }
     {
         Running {
+            taken: Some(kind),
             locks: self.locks.saturating_add(1),
             ..self
+        }
+    }
+
+    /// One event of a row more. A growth is no store.
+    pub fn with_event(self, event: Next) -> Running
+        ensures { result ≡ with_stored event self }
+    {
+        match event {
+            Next::Store { .. } => Running {
+                stores: self.stores.saturating_add(1),
+                ..self
+            },
+            _ => self,
         }
     }
 }
@@ -54,9 +74,17 @@ pub enum Stage {
     PeekSequence(Peek),
     /// It asks for a shared lock.
     LockShared,
+    /// It asks for an exclusive lock.
+    LockExclusive,
     /// It loads the region under its lock.
     Load(Loading),
-    /// It gives its shared lock up, and then ends so.
+    /// It asks for the data file's size, as it will change the image that it keeps.
+    Size,
+    /// It asks for places and room for the stores to come.
+    Reserve(Plan),
+    /// It makes the stores.
+    Store(Plan),
+    /// It gives its lock up, and then ends so.
     Unlock(End),
     /// A hold begins.
     Hold,

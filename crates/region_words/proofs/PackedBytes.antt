@@ -1,11 +1,10 @@
 -- A map of pairs that can be packed is packed to bytes, and the maps of images and of what is appended to them are such.
-use Rattle.std.proofs.Common.{◌≡◌, ℕ, ◌+◌, ◌^◌, ◌<◌, ◌≤◌, Bool, true, false, cond, List, [], length, drop, refl, sym, ◌∙◌, arith, subst, length-append, length-take, length-drop}
+use Rattle.std.proofs.Common.{◌≡◌, ℕ, ◌+◌, ◌^◌, ◌<◌, ◌≤◌, Bool, true, false, cond, [], length, drop, refl, sym, ◌∙◌, arith, subst, length-append, length-take, length-drop}
 use Rattle.std.specs.Prelude.{Option, Some, None, option_and_then, ◌==◌}
 use Rattle.std.specs.Int.{to_le_bytes, w32}
 use Rattle.std.specs.Ordering.{eq_by_cmp}
 use Rattle.std.specs.Cmp.Lexicographic.{nat_list_cmp_total}
 use Rattle.std.specs.FinMap as fin
-use Rattle.expiring_map.specs.ValueUntil.{ValueUntil}
 use Rattle.expiring_map.specs.Map.{Map, value_until}
 use Rattle.expiring_map.specs.Live.{live_part, with_expiry}
 use Rattle.expiring_map.proofs.Refold.{order, same_keys, is_equal}
@@ -13,44 +12,13 @@ use Rattle.kv_pairs.specs.Lengths.{shortest}
 use Rattle.kv_pairs.specs.Growth.{largest}
 use Rattle.kv_pairs.specs.Mapped.{packed, map_in, stored, length_prefixed, IsPackablePair, IsPackable}
 use Rattle.kv_pairs.proofs.GoodItems.{Small-from, Small-to, Small-take, Small-drop}
-use Rattle.kv_pairs.proofs.Packing.{Packs, Packable, packed_small, read_packs, packable_live, packable_expiring, packable_empty}
+use Rattle.kv_pairs.proofs.Packables.{to_packable, from_packable}
+use Rattle.kv_pairs.proofs.Packing.{packed_small, read_packs, packable_live, packable_expiring, packable_empty}
 use Rattle.change_log.specs.Acts.{applied, expiry_after}
 use Rattle.change_log.specs.declared.change.Act.{Act}
 use Rattle.change_log.specs.declared.change.Act.TheVariants as act
 use Rattle.region_words.specs.Region.{Region, IsRegion, flag, payload_of, shown, size_of, map_shown}
 use Rattle.region_words.specs.Rows.{AreBytes, IsAppendable, item_of}
-
-to_pair : (flag : Bool) (key : List ℕ) (d : ValueUntil) → Packs flag key d → IsPackablePair flag key d
-to_pair flag key d p =
-    record {
-      key_some = p.key_some;
-      key_short = p.key_short;
-      key_bytes = Small-to key p.key_small;
-      value_some = p.value_some;
-      value_short = p.value_short;
-      value_bytes = Small-to d.value p.value_small;
-      expiry_small = p.expiry_small;
-      no_expiry = p.no_expiry;
-    }
-
-from_pair : (flag : Bool) (key : List ℕ) (d : ValueUntil) → IsPackablePair flag key d → Packs flag key d
-from_pair flag key d p =
-    record {
-      key_some = p.key_some;
-      key_short = p.key_short;
-      key_small = Small-from key p.key_bytes;
-      value_some = p.value_some;
-      value_short = p.value_short;
-      value_small = Small-from d.value p.value_bytes;
-      expiry_small = p.expiry_small;
-      no_expiry = p.no_expiry;
-    }
-
-pub to_packable : (flag : Bool) (m : Map) → Packable flag m → IsPackable flag m
-to_packable flag m p key d e = to_pair flag key d (p key d e)
-
-pub from_packable : (flag : Bool) (m : Map) → IsPackable flag m → Packable flag m
-from_packable flag m p key d e = from_pair flag key d (p key d e)
 
 -- a packed map is bytes
 pub packed_bytes : (flag : Bool) (m : Map) → IsPackable flag m → AreBytes (packed flag m)

@@ -127,9 +127,8 @@ impl RowMaker {
         }
     }
 
-    /// What is known of the image once the row is whole.
+    /// What is known of the image once the row is whole, whatever is still to come.
     pub fn standing(&self) -> Standing
-        requires { self.now.events ≡ [] }
         ensures { result ≡ self.now.standing }
     {
         self.standing

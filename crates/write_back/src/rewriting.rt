@@ -111,9 +111,8 @@ impl Rewriting {
         self.maker.step(share)
     }
 
-    /// What is known of the image once all is stored.
+    /// What is known of the image once all is stored, whatever is still to come.
     pub fn standing(&self) -> Standing
-        requires { self.now.events ≡ [] }
         ensures { result ≡ self.now.standing }
     {
         self.maker.standing()

@@ -1,8 +1,10 @@
 use Rattle.std.specs.Prelude.{map}
+use Rattle.mmkv_top.specs.Played.{stock_of}
 use Rattle.mmkv_top.specs.Play.{texts_of, without_feed}
-use Rattle.mmkv_top.specs.Player.{IsPlaying, IsTaken}
+use Rattle.mmkv_top.specs.Player.{IsReady, IsTaken}
 use Rattle.mmkv_top.proofs.lines.take_lines.Given as goal
 
 abbrev pub invariant-loop-line : goal.invariant-loop-line
-invariant-loop-line l =
-    IsPlaying l.player × IsTaken (texts_of l.fn.script) (map without_feed l.line-iterator) l.player l.count
+invariant-loop-line g l =
+    IsReady l.player
+    × IsTaken (stock_of l.fn.handlers) (stock_of l.handlers) l.fn.player.seat.region.start (texts_of l.fn.script) (map without_feed l.line-iterator) l.player l.count

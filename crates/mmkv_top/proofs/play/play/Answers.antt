@@ -6,6 +6,6 @@ use Rattle.mmkv_top.proofs.play.play.Goals as goal
 
 pub returns-in-Ok-clause-due : goal.returns-in-Ok-clause-due
 returns-in-Ok-clause-due g c =
-    due play_statuses (IsPlayOf _ _ _) (g.D.Shelf.stores c.args.shelf.now c.args.id.now) c.bring-brought.result c.in-Ok.ending _
-    (λ x d. play_of_status _ _ _ x c.in-Ok.ending d) refl refl
+    due play_statuses (IsPlayOf _ _ _ _) (g.D.Shelf.stores c.args.shelf.now c.args.id.now) c.bring-brought.result c.in-Ok.ending _
+    (λ x d. play_of_status _ _ _ _ x c.in-Ok.ending d) refl refl
     c.bring-brought.ensures.told c.bring-brought.ensures.failed c.in-Ok.ensures

@@ -1,16 +1,31 @@
-use Rattle.std.proofs.Common.{◌≡◌}
+use Rattle.std.proofs.Common.{◌≡◌, inl, inr}
 use Rattle.std.proofs.lemmas.Result.{IfOk-weaker}
-use Rattle.std.specs.Prelude.{◌⊎◌, ◌++◌, flat_map, false}
-use Rattle.script_lang.specs.Texts.{outcome_line, changes_text}
+use Rattle.std.specs.Prelude.{◌⊎◌, false}
+use Rattle.region_words.specs.Past.{changes_of, region_after}
+use Rattle.script_lang.specs.Texts.{run_text}
 use Rattle.mmkv_top.specs.Ending.{ending}
-use Rattle.mmkv_top.specs.Play.{texts_of, IsPlayed, IsScriptRefused}
-use Rattle.mmkv_top.proofs.Ended.{played_whole}
+use Rattle.mmkv_top.specs.Played.{stock_of}
+use Rattle.mmkv_top.specs.Play.{texts_of, IsPlayed, IsEndedEarly}
+use Rattle.mmkv_top.specs.Player.{IsEndingAt}
+use Rattle.mmkv_top.proofs.Ended.{whole_played, ended_early}
 use Rattle.mmkv_top.proofs.play.play_script.Goals as goal
 
-pub returns : goal.returns
-returns c =
+pub returns-in-Ok : goal.returns-in-Ok
+returns-in-Ok g c =
+    let stock = stock_of c.args.handlers.now in
+    let start = c.args.player.now.seat.region.start in
+    let texts = texts_of c.args.script.now in
+    let p = c.take_lines.new.player in
     IfOk-weaker c.played.result
-    (λ e. e ≡ ending 0 (flat_map outcome_line c.take_lines.new.player.outcomes.items ++ changes_text c.take_lines.new.player.changes.items))
-    (λ e. IsPlayed (texts_of c.args.script.now) e ⊎ IsScriptRefused (texts_of c.args.script.now) false e)
-    (λ e text. played_whole (texts_of c.args.script.now) c.take_lines.new.player c.in_ok-taken.taken e c.if-taken.false c.in_ok-taken.ensures.playing c.in_ok-taken.ensures.taken text)
-    c.played.ensures
+    (λ e. e ≡ ending 0 (run_text p.outcomes (changes_of p.seat.region.past) (region_after p.seat.region.start p.seat.region.past)))
+    (λ e. IsPlayed stock start texts e ⊎ IsEndedEarly stock start texts false e)
+    (λ e text. inl (whole_played stock (stock_of c.take_lines.new.handlers) start texts p c.in-Ok.field-0 e c.in-Ok.ensures.ready c.in-Ok.ensures.taken text)) c.played.ensures
+
+pub returns-in-Err : goal.returns-in-Err
+returns-in-Err g c =
+    let stock = stock_of c.args.handlers.now in
+    let start = c.args.player.now.seat.region.start in
+    let texts = texts_of c.args.script.now in
+    IfOk-weaker c.halted_at.result (IsEndingAt c.in-Err.halted.number c.in-Err.halted.why)
+    (λ e. IsPlayed stock start texts e ⊎ IsEndedEarly stock start texts false e)
+    (λ e is. inr (ended_early stock start texts false c.in-Err.halted.number c.in-Err.halted.why e c.in-Err.ensures.halted is)) c.halted_at.ensures

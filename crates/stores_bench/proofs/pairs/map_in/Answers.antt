@@ -5,8 +5,8 @@ use Rattle.kv_pairs.specs.Mapped.{map_in}
 use Rattle.kv_pairs.specs.Growth.{largest}
 use Rattle.kv_pairs.proofs.GoodItems.{Small-of}
 use Rattle.kv_pairs.proofs.Counts.{read_small}
+use Rattle.kv_pairs.proofs.Packables.{to_packable}
 use Rattle.kv_pairs.proofs.Packing.{read_packs}
-use Rattle.region_words.proofs.PackedBytes.{to_packable}
 use Rattle.stores_bench.proofs.pairs.map_in.Goals as goal
 
 pub returns : goal.returns

@@ -1,10 +1,12 @@
-use Rattle.std.proofs.Common.{sym, subst, refl}
+use Rattle.std.proofs.Common.{◌≡◌, sym, subst, refl, ap, ◌∙◌, arith}
 use Rattle.lock_rules.specs.declared.table.LockKind.TheVariants.{Exclusive}
 use Rattle.region_words.specs.Told.{OnTold}
 use Rattle.region_words.specs.Share.{Tries}
 use Rattle.opener.specs.State.{OpenerState}
-use Rattle.opener.specs.Opener.{Tied, OnAnswer, IsAnswer, running_as}
+use Rattle.opener.specs.Opener.{Tied, OnAnswer, IsAnswer}
 use Rattle.opener.specs.declared.work.Stage.TheVariants.{Hold}
+use Rattle.opener.proofs.Carry.{own_if}
+use Rattle.opener.proofs.Same.{locked_same}
 use Rattle.opener.proofs.Stages.{busy_tied}
 use Rattle.opener.proofs.Holds.{held_tied, first_answer}
 use Rattle.opener.proofs.Stopped.{tried_tied}
@@ -15,27 +17,32 @@ returns-in-Ok-Taken-clause-tied g c =
     let s = g.S.Share.state c.args.share.now in
     let t = g.S.Share.state c.try_lock.new.self in
     let tries = subst (λ tried. Tries Exclusive tried s t) c.in-Ok-Taken.field-0-is c.in-Ok-Taken.ensures.ok in
-    subst (λ (n : OpenerState). Tied n t) (sym c.done-in-Ok-Taken.ensures.1)
-    (held_tied c.args.self.now c.args.running c.with_lock.result s t c.with_lock.ensures c.requires tries)
+    subst (λ (n : OpenerState). Tied n t) (sym c.done-in-Ok-Taken.ensures.1) (held_tied c.args.self.now c.args.running c.with_lock.result s t c.requires tries)
 
 pub returns-in-Ok-Taken-clause-answer : goal.returns-in-Ok-Taken-clause-answer
 returns-in-Ok-Taken-clause-answer g c =
     let s = g.S.Share.state c.args.share.now in
     let t = g.S.Share.state c.try_lock.new.self in
     let tries = subst (λ tried. Tries Exclusive tried s t) c.in-Ok-Taken.field-0-is c.in-Ok-Taken.ensures.ok in
+    let same = locked_same c.args.running c.with_lock.result Exclusive c.with_lock.ensures in
     subst (λ r. OnAnswer r (λ a. OnTold t.told (λ h. IsAnswer a h.start h.past))) (sym c.done-in-Ok-Taken.ensures.0)
-    (first_answer c.args.self.now c.args.running c.with_lock.result s t c.with_lock.ensures c.changes-in-Ok-Taken.result c.requires tries c.changes-in-Ok-Taken.ensures)
+    (first_answer c.args.self.now c.args.running c.with_lock.result s t c.requires tries c.changes-in-Ok-Taken.result same.0 c.changes-in-Ok-Taken.ensures)
 
 pub returns-in-Ok-Busy-clause-tied : goal.returns-in-Ok-Busy-clause-tied
 returns-in-Ok-Busy-clause-tied g c =
     let s = g.S.Share.state c.args.share.now in
     let t = g.S.Share.state c.try_lock.new.self in
     let tries = subst (λ tried. Tries Exclusive tried s t) c.in-Ok-Busy.field-0-is c.in-Ok-Busy.ensures.ok in
-    subst (λ (n : OpenerState). Tied n t) (sym c.blocked.ensures.1)
-    (busy_tied (running_as c.args.self.now c.args.running Hold) Exclusive c.in-Ok-Busy.holder s t c.requires tries)
+    subst (λ (n : OpenerState). Tied n t) (sym c.blocked.ensures.1) (busy_tied c.args.self.now c.args.running Hold Exclusive c.in-Ok-Busy.holder s t c.requires tt tries)
+
+pub try_lock-requires-clause-free : goal.try_lock-requires-clause-free
+try_lock-requires-clause-free g c =
+    let holds = c.args.self.now.holds in
+    let none : holds ≡ 0 = omega (arith, c.if-self-gt0.false, ap (λ (o : OpenerState). o.holds) c.self.view_is) in
+    c.requires.holds ∙ own_if holds c.args.running.taken none ∙ c.requires.at.2.1
 
 pub returns-in-Err-clause-tied : goal.returns-in-Err-clause-tied
 returns-in-Err-clause-tied g c =
     let s = g.S.Share.state c.args.share.now in
     let t = g.S.Share.state c.try_lock.new.self in
-    tried_tied c.args.self.now c.args.running Hold Exclusive c.in-Err.stop c.stopped.result c.stopped.new.self s t c.requires refl c.stopped.ensures c.in-Err.ensures.err
+    tried_tied c.args.self.now c.args.running Hold Exclusive c.in-Err.stop c.stopped.result c.stopped.new.self s t c.requires refl c.requires.at.2.1 c.stopped.ensures c.in-Err.ensures.err

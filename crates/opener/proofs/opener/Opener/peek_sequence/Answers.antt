@@ -1,31 +1,63 @@
-use Rattle.std.proofs.Common.{◌≡◌, sym}
-use Rattle.std.specs.Prelude.{Some}
-use Rattle.opener.specs.Ends.{current}
-use Rattle.opener.proofs.Notices.{current_tied, current_answer, reading_tied}
+use Rattle.std.proofs.Common.{◌≡◌, true, sym, refl}
+use Rattle.opener.specs.Ends.{is_current}
+use Rattle.opener.specs.declared.work.Stage.TheVariants.{PeekSequence}
+use Rattle.opener.proofs.Noticed.{current_is, current_ready, looks_next, peeked_leaving, reading_tied}
+use Rattle.opener.proofs.Ready.{ready_tied, ready_answer, ready_cause}
+use Rattle.opener.proofs.Same.{loaded_same}
+use Rattle.opener.proofs.StopClauses.{failed_stops}
+use Rattle.opener.proofs.Stopped.{stopped_tied}
 use Rattle.opener.proofs.opener.Opener.peek_sequence.Goals as goal
 
-pub returns-in-Some-clause-tied : goal.returns-in-Some-clause-tied
-returns-in-Some-clause-tied g c =
+pub returns-then-is_current-clause-tied : goal.returns-then-is_current-clause-tied
+returns-then-is_current-clause-tied g c =
     let o = c.args.self.now in
     let s = g.S.Share.state c.args.share.now in
     let t = g.S.Share.state c.peek_sequence.new.self in
-    let is : current o.image c.args.peek c.in-Ok.sequence ≡ Some c.in-Some.image.now = sym c.in-Some.ensures in
-    current_tied o c.args.running c.with_load.result c.args.peek c.in-Ok.sequence c.changes.result c.in-Some.image.now s t c.requires c.with_load.ensures c.in-Ok.ensures.ok is
-    c.in-Ok.ensures.value c.changes.ensures c.end_with-end.result c.finish.result c.finish.new.self c.finish.ensures
+    let same = loaded_same c.args.running c.with_load.result c.with_load.ensures in
+    let is : is_current o.image c.args.peek c.in-Ok.sequence ≡ true = sym c.if-is_current.ensures in
+    let cur = current_is o.image c.args.peek c.in-Ok.sequence is in
+    ready_tied o o cur.i c.args.running c.with_load.result (PeekSequence c.args.peek) c.args.peek.changes c.changes.result c.ready.result c.ready.new.self s t c.requires
+    (peeked_leaving o c.args.running c.with_load.result c.args.peek s t c.requires same c.in-Ok.ensures.ok) cur.kept same.same
+    (looks_next o c.args.running c.with_load.result c.args.peek s t c.requires same c.in-Ok.ensures.ok)
+    (current_ready o c.args.running c.with_load.result c.args.peek s t c.requires same c.in-Ok.ensures.ok c.in-Ok.sequence cur c.in-Ok.ensures.value) c.ready.ensures
 
-pub returns-in-Some-clause-answer : goal.returns-in-Some-clause-answer
-returns-in-Some-clause-answer g c =
+pub returns-then-is_current-clause-answer : goal.returns-then-is_current-clause-answer
+returns-then-is_current-clause-answer g c =
     let o = c.args.self.now in
     let s = g.S.Share.state c.args.share.now in
     let t = g.S.Share.state c.peek_sequence.new.self in
-    let is : current o.image c.args.peek c.in-Ok.sequence ≡ Some c.in-Some.image.now = sym c.in-Some.ensures in
-    current_answer o c.args.running c.with_load.result c.args.peek c.in-Ok.sequence c.changes.result c.in-Some.image.now s t c.requires c.with_load.ensures c.in-Ok.ensures.ok is
-    c.in-Ok.ensures.value c.changes.ensures c.end_with-end.result c.finish.result c.finish.new.self c.end_with-end.ensures c.finish.ensures
+    let same = loaded_same c.args.running c.with_load.result c.with_load.ensures in
+    let is : is_current o.image c.args.peek c.in-Ok.sequence ≡ true = sym c.if-is_current.ensures in
+    let cur = current_is o.image c.args.peek c.in-Ok.sequence is in
+    ready_answer o o cur.i c.args.running c.with_load.result (PeekSequence c.args.peek) c.args.peek.changes c.changes.result c.ready.result c.ready.new.self s t c.requires
+    (peeked_leaving o c.args.running c.with_load.result c.args.peek s t c.requires same c.in-Ok.ensures.ok) cur.kept same.same
+    (looks_next o c.args.running c.with_load.result c.args.peek s t c.requires same c.in-Ok.ensures.ok)
+    (current_ready o c.args.running c.with_load.result c.args.peek s t c.requires same c.in-Ok.ensures.ok c.in-Ok.sequence cur c.in-Ok.ensures.value) c.changes.ensures c.ready.ensures
 
-pub returns-in_default-clause-tied : goal.returns-in_default-clause-tied
-returns-in_default-clause-tied g c =
+pub returns-then-is_current-clause-cause : goal.returns-then-is_current-clause-cause
+returns-then-is_current-clause-cause g c =
     let o = c.args.self.now in
     let s = g.S.Share.state c.args.share.now in
     let t = g.S.Share.state c.peek_sequence.new.self in
-    reading_tied o c.args.running c.with_load-in-Ok.result c.args.peek s t c.requires c.with_load-in-Ok.ensures c.in-Ok.ensures.ok c.reading-stage.result c.going.result c.going.new.self
+    let same = loaded_same c.args.running c.with_load.result c.with_load.ensures in
+    let is : is_current o.image c.args.peek c.in-Ok.sequence ≡ true = sym c.if-is_current.ensures in
+    let cur = current_is o.image c.args.peek c.in-Ok.sequence is in
+    ready_cause o o cur.i c.args.running c.with_load.result (PeekSequence c.args.peek) c.args.peek.changes c.changes.result c.ready.result c.ready.new.self s t c.requires
+    (peeked_leaving o c.args.running c.with_load.result c.args.peek s t c.requires same c.in-Ok.ensures.ok) cur.kept same.same
+    (looks_next o c.args.running c.with_load.result c.args.peek s t c.requires same c.in-Ok.ensures.ok)
+    (current_ready o c.args.running c.with_load.result c.args.peek s t c.requires same c.in-Ok.ensures.ok c.in-Ok.sequence cur c.in-Ok.ensures.value) refl c.ready.ensures
+
+pub returns-else-is_current-clause-tied : goal.returns-else-is_current-clause-tied
+returns-else-is_current-clause-tied g c =
+    let s = g.S.Share.state c.args.share.now in
+    let t = g.S.Share.state c.peek_sequence.new.self in
+    reading_tied c.args.self.now c.args.running c.with_load-in-Ok.result c.args.peek s t c.requires
+    (loaded_same c.args.running c.with_load-in-Ok.result c.with_load-in-Ok.ensures) c.in-Ok.ensures.ok c.reading-stage.result c.going.result c.going.new.self
     c.reading-stage.ensures c.going.ensures
+
+pub returns-in-Err-clause-tied : goal.returns-in-Err-clause-tied
+returns-in-Err-clause-tied g c =
+    let s = g.S.Share.state c.args.share.now in
+    let t = g.S.Share.state c.peek_sequence.new.self in
+    stopped_tied c.args.self.now c.args.running (PeekSequence c.args.peek) c.in-Err.stop c.stopped.result c.stopped.new.self s t c.requires c.stopped.ensures
+    (failed_stops c.in-Err.stop s t c.in-Err.ensures.err.0 c.in-Err.ensures.err.1)

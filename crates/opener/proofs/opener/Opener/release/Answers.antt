@@ -1,15 +1,18 @@
-use Rattle.std.proofs.Common.{sym, subst}
+use Rattle.std.proofs.Common.{sym, subst, refl}
 use Rattle.region_words.specs.Told.{OnTold}
 use Rattle.opener.specs.State.{OpenerState}
 use Rattle.opener.specs.Opener.{Tied, OnAnswer, IsAnswer}
 use Rattle.opener.specs.declared.work.Stage.TheVariants.{Release}
-use Rattle.opener.proofs.Leaving.{may_release}
+use Rattle.opener.proofs.Carry.{exclusive_if, exclusive_some}
+use Rattle.opener.proofs.Leaving.{may_leave}
 use Rattle.opener.proofs.Holds.{released_tied, last_answer}
 use Rattle.opener.proofs.Stopped.{stopped_tied}
 use Rattle.opener.proofs.opener.Opener.release.Goals as goal
 
 pub unlock-requires-clause-lawful : goal.unlock-requires-clause-lawful
-unlock-requires-clause-lawful g c = may_release c.args.self.now c.args.running (g.S.Share.state c.args.share.now) c.requires
+unlock-requires-clause-lawful g c =
+    may_leave c.args.self.now c.args.running Release (g.S.Share.state c.args.share.now) c.requires refl
+    (exclusive_some _ (exclusive_if c.args.self.now.holds c.args.running.taken c.requires.at.2))
 
 pub returns-in-Ok-clause-tied : goal.returns-in-Ok-clause-tied
 returns-in-Ok-clause-tied g c =
@@ -22,7 +25,7 @@ returns-in-Ok-clause-answer g c =
     let s = g.S.Share.state c.args.share.now in
     let t = g.S.Share.state c.unlock.new.self in
     subst (λ r. OnAnswer r (λ a. OnTold t.told (λ h. IsAnswer a h.start h.past))) (sym c.done-in-Ok.ensures.0)
-    (last_answer c.args.self.now c.args.running s t c.in-Ok.ensures.ok c.changes-in-Ok.result c.requires c.changes-in-Ok.ensures)
+    (last_answer c.args.self.now c.args.running s t c.in-Ok.ensures.ok c.requires c.changes-in-Ok.result c.changes-in-Ok.ensures)
 
 pub returns-in-Err-clause-tied : goal.returns-in-Err-clause-tied
 returns-in-Err-clause-tied g c =

@@ -1,21 +1,29 @@
+use Rattle.std.proofs.Common.{refl}
 use Rattle.opener.specs.declared.work.Stage.TheVariants.{Unlock}
 use Rattle.opener.proofs.Leaving.{may_leave}
-use Rattle.opener.proofs.Ended.{unlocked_tied, unlocked_answer, unlocked_cause}
+use Rattle.opener.proofs.Finished.{finishes_call}
+use Rattle.opener.proofs.Ended.{unlocked_tied, unlocked_answer, unlocked_cause, still_locked_cause, still_held}
 use Rattle.opener.proofs.Stopped.{stopped_tied}
 use Rattle.opener.proofs.opener.Opener.unlock.Goals as goal
 
 pub unlock-requires-clause-lawful : goal.unlock-requires-clause-lawful
-unlock-requires-clause-lawful g c = may_leave c.args.self.now c.args.running c.args.end (g.S.Share.state c.args.share.now) c.requires
+unlock-requires-clause-lawful g c =
+    let s = g.S.Share.state c.args.share.now in
+    may_leave c.args.self.now c.args.running (Unlock c.args.end) s c.requires refl (still_held c.args.self.now c.args.running c.args.end s c.requires)
 
 pub returns-in-Ok-clause-tied : goal.returns-in-Ok-clause-tied
 returns-in-Ok-clause-tied g c =
     unlocked_tied c.args.self.now c.args.running (g.S.Share.state c.args.share.now) (g.S.Share.state c.unlock.new.self) c.in-Ok.ensures.ok
     c.args.end c.changes.result c.finish.result c.finish.new.self c.requires c.finish.ensures
 
+pub returns-in-Ok-clause-call : goal.returns-in-Ok-clause-call
+returns-in-Ok-clause-call g c =
+    finishes_call c.args.self.now c.args.running c.args.running c.args.end c.changes.result c.finish.result c.finish.new.self (record { call = refl; now = refl; begun = refl })
+    c.requires.at.1 c.requires.at.2.1 c.finish.ensures
+
 pub returns-in-Ok-clause-cause : goal.returns-in-Ok-clause-cause
 returns-in-Ok-clause-cause g c =
-    unlocked_cause c.args.self.now c.args.running (g.S.Share.state c.args.share.now) (g.S.Share.state c.unlock.new.self) c.in-Ok.ensures.ok
-    c.args.end c.changes.result c.finish.result c.finish.new.self c.requires c.finish.ensures
+    unlocked_cause c.args.self.now c.args.running c.args.end c.changes.result c.finish.result c.finish.new.self (g.S.Share.state c.args.share.now) (g.S.Share.state c.unlock.new.self) c.finish.ensures
 
 pub returns-in-Ok-clause-answer : goal.returns-in-Ok-clause-answer
 returns-in-Ok-clause-answer g c =
@@ -26,3 +34,8 @@ pub returns-in-Err-clause-tied : goal.returns-in-Err-clause-tied
 returns-in-Err-clause-tied g c =
     stopped_tied c.args.self.now c.args.running (Unlock c.args.end) c.in-Err.stop c.stopped.result c.stopped.new.self (g.S.Share.state c.args.share.now) (g.S.Share.state c.unlock.new.self)
     c.requires c.stopped.ensures c.in-Err.ensures.err
+
+pub returns-in-Err-clause-cause : goal.returns-in-Err-clause-cause
+returns-in-Err-clause-cause g c =
+    still_locked_cause c.args.self.now c.args.running c.args.end c.in-Err.stop c.stopped.result c.stopped.new.self (g.S.Share.state c.args.share.now) (g.S.Share.state c.unlock.new.self)
+    c.stopped.ensures c.in-Err.ensures.err

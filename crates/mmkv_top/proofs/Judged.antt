@@ -1,0 +1,29 @@
+-- What was played is lawful, and its answers stand in it.
+use Rattle.std.proofs.Common.{List, [], sym, subst}
+use Rattle.std.specs.Prelude.{Option, Some, None}
+use Rattle.opener.specs.State.{OpenerState}
+use Rattle.region_words.specs.Region.{Region}
+use Rattle.region_words.specs.Lawful.{Lawful}
+use Rattle.mmkv_top.specs.State.{PlayerState}
+use Rattle.mmkv_top.specs.Parts.{Part, past_of, outcomes_of, answers_in}
+use Rattle.mmkv_top.specs.Played.{Stock}
+use Rattle.mmkv_top.specs.Play.{AreAnswered, IsJournal}
+use Rattle.mmkv_top.specs.Player.{OpenerAt, IsAt, IsReady}
+use Rattle.mmkv_top.proofs.Answering.{nothing_answered}
+
+-- the parts that were played are a lawful journal, in which the answers stand
+pub journal_of : (stock left : Stock) (start : Region) (parts : List Part) (p : PlayerState) → IsReady p → IsAt stock left start parts p → IsJournal stock start parts
+journal_of stock left start parts p ready at = go p.opener at.opener
+  where
+    go : (o : Option OpenerState) → OpenerAt stock left start parts p.seat o → IsJournal stock start parts
+    go None un = record {
+      each = at.each;
+      lawful = subst (Lawful start) (sym un.past) tt;
+      answers = subst (λ x. AreAnswered start x (answers_in (outcomes_of parts))) (sym un.past)
+          (subst (λ x. AreAnswered start [] (answers_in x)) (sym un.outcomes) (nothing_answered start).are);
+    }
+    go (Some o) op = record {
+      each = at.each;
+      lawful = subst (λ x. Lawful x (past_of parts)) at.start_is (subst (Lawful p.seat.region.start) at.past op.tied.told.agrees.lawful);
+      answers = op.answered.are;
+    }

@@ -1,0 +1,147 @@
+-- The opener of a script is opened.
+use Rattle.std.proofs.Common.{◌≡◌, ℕ, ◌<◌, Bool, true, false, List, [], ◌∷◌, ◌++◌, length, refl, sym, ap, ◌∙◌, arith, subst, append-nil, length-append}
+use Rattle.std.specs.Prelude.{Option, Some, None, is_some, option_map, if◌then◌else◌}
+use Rattle.handlers.specs.Stock.{Draws}
+use Rattle.handlers.specs.declared.handler.Strategy.{Strategy}
+use Rattle.handlers.specs.declared.handler.Strategy.TheVariants.{Discard, Recover, Leave}
+use Rattle.opener.specs.Opener.{Tied}
+use Rattle.opener.specs.State.{OpenerState}
+use Rattle.opener.specs.declared.work.Work.TheVariants.{Idle}
+use Rattle.region_words.specs.Region.{Region, IsAccepted}
+use Rattle.region_words.specs.Local.{Seated, seat_state, lock_after}
+use Rattle.lock_rules.specs.Locks.{unlocked}
+use Rattle.lock_rules.specs.declared.table.LockKind.{LockKind}
+use Rattle.lock_rules.specs.declared.table.LockKind.TheVariants.{Shared}
+use Rattle.std.specs.FinSet as set
+use Rattle.std.specs.List.{AllByRecursion}
+use Rattle.std.specs.Ordering.{nat_cmp}
+use Rattle.region_words.specs.declared.event.Event.{Event}
+use Rattle.script_lang.specs.declared.line.Line.{Line}
+use Rattle.script_lang.specs.declared.line.Line.TheVariants.{Open}
+use Rattle.mmkv_top.specs.State.{PlayerState}
+use Rattle.mmkv_top.specs.Parts.{Part, past_of, outcomes_of, answers_in, strategies, running, going_on}
+use Rattle.mmkv_top.specs.Played.{Stock, stocked, drawn}
+use Rattle.mmkv_top.specs.Player.{IsOpened, IsUnopened, OpenerAt, IsAt, IsReady, IsReadyFor, TakesOne, FollowsWork, HasAnswered}
+use Rattle.mmkv_top.proofs.Answering.{nothing_answered}
+use Rattle.mmkv_top.proofs.LineEnds.{going_none}
+
+abbrev new_opener : ℕ → OpenerState
+new_opener who = record { who = who; image = None; holds = 0; work = Idle }
+
+pub none_of : {A : Type 0} (o : Option A) → is_some o ≡ false → o ≡ None
+none_of None h = refl
+none_of (Some x) h = absurd cc
+
+abbrev free_by : Bool → Option LockKind
+free_by b = if b then Some Shared else None
+
+-- nothing has happened where no opener was opened
+pub fresh_past : (p : PlayerState) → p.opener ≡ None → IsReady p → p.seat.region.past ≡ []
+fresh_past p none ready = (subst (λ o. IsReadyFor o p.seat) none ready.1).1
+
+pub fresh_accepted : (p : PlayerState) → p.opener ≡ None → IsReady p → IsAccepted p.seat.region.start
+fresh_accepted p none ready = (subst (λ o. IsReadyFor o p.seat) none ready.1).2
+
+pub lock_free : (past : List Event) (who : ℕ) → past ≡ [] → lock_after past who ≡ None
+lock_free past who none = ap (λ x. lock_after x who) none ∙ go (set.contains unlocked.shared who) (set.contains-empty nat_cmp who)
+  where
+    go : (b : Bool) → b ≡ false → free_by b ≡ None
+    go false e = refl
+    go true e = absurd cc
+
+some_in : {A : Type 0} (old new : List A) (last : A) → old ≡ new ++ last ∷ [] → 0 < length old
+some_in old new last is = omega (arith, ap length is, length-append new (last ∷ []))
+
+-- a handler was drawn from a stock that had one
+pub stock_had : {A : Type 0} (d d' r r' l l' : List A) (last : A) (strategy : Strategy) →
+    Draws strategy Discard d d' (Some last) → Draws strategy Recover r r' (Some last) → Draws strategy Leave l l' (Some last) →
+    0 < stocked (record { discard = length d; recover = length r; leave = length l }) strategy
+stock_had d d' r r' l l' last Discard of_discard of_recover of_leave = some_in d d' last (of_discard.0 refl)
+stock_had d d' r r' l l' last Recover of_discard of_recover of_leave = some_in r r' last (of_recover.0 refl)
+stock_had d d' r r' l l' last Leave of_discard of_recover of_leave = some_in l l' last (of_leave.0 refl)
+
+pub open_taken : (stock left left' : Stock) (start : Region) (parts : List Part) (p q : PlayerState) (o : OpenerState) (who : ℕ) (strategy : Strategy) →
+    p.opener ≡ None → 0 < stocked left strategy → q.seat.region.start ≡ p.seat.region.start → q.seat.region.past ≡ p.seat.region.past →
+    q.seat.region.failing.listed ≡ p.seat.region.failing.listed → q.opener ≡ Some o → q.outcomes ≡ p.outcomes → Tied o (seat_state q.seat) → o ≡ new_opener who → who ≡ 1 →
+    IsAt stock left start parts p → TakesOne stock left' start parts (Some (Open strategy)) q
+open_taken stock left left' start parts p q o who strategy none had begins past listed opener outcomes tied new one at = (
+  [],
+  None,
+  record {
+    start_is = begins ∙ at.start_is;
+    past = past ∙ at.past;
+    outcomes = outcomes ∙ at.outcomes ∙ sym (append-nil (outcomes_of parts));
+    steady = listed ∙ at.steady;
+    each = (at.each, ((few, enough), (refl, refl)));
+    opener = subst (OpenerAt stock left' start grown q.seat) (sym opener) opened;
+  },
+)
+  where
+    un : IsUnopened stock left parts
+    un = subst (OpenerAt stock left start parts p.seat) none at.opener
+
+    grown : List Part
+    grown = record { line = Some (Open strategy); made = []; outcome = None } ∷ parts
+
+    few : length (strategies parts) < 64
+    few = omega (arith, ap length un.none)
+
+    enough : drawn strategy (strategies parts) < stocked stock strategy
+    enough = subst (λ x. drawn strategy x < stocked stock strategy) (sym un.none) (subst (λ x. 0 < stocked x strategy) un.full had)
+
+    opened : IsOpened start (record { line = Some (Open strategy); made = []; outcome = None } ∷ parts) o q.seat
+    opened = record {
+      one = ap (λ xs. length (xs ++ strategy ∷ [])) un.none;
+      tied = tied;
+      who = ap (λ (x : OpenerState). x.who) new ∙ one;
+      follows = subst (λ (x : OpenerState). FollowsWork x.work (running 1 (record { line = Some (Open strategy); made = []; outcome = None } ∷ parts))) (sym new)
+          (subst (FollowsWork Idle) (sym (going_none (running 1 parts) ∙ un.idle)) tt);
+      holds = ap (λ (x : OpenerState). x.holds) new ∙ sym un.held;
+      ours = subst (AllByRecursion (λ e. e.who ≡ 1)) (sym un.past) tt;
+      answered = subst (λ xs. HasAnswered start (past_of parts) (option_map (going_on []) (running 1 parts)) (answers_in xs)) (sym (append-nil (outcomes_of parts) ∙ un.outcomes))
+          (subst (λ r. HasAnswered start (past_of parts) r []) (sym (going_none (running 1 parts) ∙ un.idle))
+          (subst (λ x. HasAnswered start x None []) (sym un.past) (nothing_answered start)));
+    }
+
+abbrev nothing : Part
+nothing = record { line = None; made = []; outcome = None }
+
+grow_nothing : (stock left : Stock) (start : Region) (parts : List Part) (s : Seated) (o : Option OpenerState) → OpenerAt stock left start parts s o →
+    OpenerAt stock left start (nothing ∷ parts) s o
+grow_nothing stock left start parts s None un =
+    record {
+      none = append-nil (strategies parts) ∙ un.none;
+      past = un.past;
+      outcomes = append-nil (outcomes_of parts) ∙ un.outcomes;
+      idle = going_none (running 1 parts) ∙ un.idle;
+      held = un.held;
+      full = un.full;
+    }
+grow_nothing stock left start parts s (Some o) op =
+    record {
+      one = ap length (append-nil (strategies parts)) ∙ op.one;
+      tied = op.tied;
+      who = op.who;
+      follows = subst (FollowsWork o.work) (sym (going_none (running 1 parts))) op.follows;
+      holds = op.holds;
+      ours = op.ours;
+      answered = subst (λ xs. HasAnswered start (past_of parts) (option_map (going_on []) (running 1 parts)) (answers_in xs)) (sym (append-nil (outcomes_of parts)))
+          (subst (λ r. HasAnswered start (past_of parts) r (answers_in (outcomes_of parts))) (sym (going_none (running 1 parts))) op.answered);
+    }
+
+-- a line that names nothing
+pub nothing_taken : (stock left : Stock) (start : Region) (parts : List Part) (p : PlayerState) (line : Option Line) → line ≡ None → IsAt stock left start parts p →
+    TakesOne stock left start parts line p
+nothing_taken stock left start parts p line none at =
+    subst (λ l. TakesOne stock left start parts l p) (sym none) (
+      [],
+      None,
+      record {
+        start_is = at.start_is;
+        past = at.past;
+        outcomes = at.outcomes ∙ sym (append-nil (outcomes_of parts));
+        steady = at.steady;
+        each = (at.each, (refl, refl));
+        opener = grow_nothing stock left start parts p.seat p.opener at.opener;
+      },
+    )

@@ -1,0 +1,271 @@
+-- A line goes on by one step of its opener.
+use Rattle.std.proofs.Common.{◌≡◌, ℕ, ◌+◌, ◌≤◌, Bool, true, false, List, [], ◌∷◌, ◌++◌, length, refl, sym, ap, ◌∙◌, inl, inr, arith, subst, append_assoc, length-append, eq-eqb}
+use Rattle.std.proofs.lemmas.List.{length-map}
+use Rattle.std.specs.Prelude.{Option, Some, None, IfSome, option_map, not, ◌||◌, ◌&&◌, ◌==◌}
+use Rattle.std.specs.Option.{option_map_or}
+use Rattle.change_log.specs.declared.call.Answer.{Answer}
+use Rattle.lock_rules.specs.Locks.{IsLeastAgainst}
+use Rattle.opener.specs.Calls.{holds_after}
+use Rattle.opener.specs.Opener.{Tied, MakesOne, KeepsWork, KeepsCall, HasCause, HasStopped, OnAnswer, IsAnswer, IsAnswerOf, RunsOn, IsAt, IsSeen, stop_found, is_ended}
+use Rattle.opener.specs.State.{OpenerState}
+use Rattle.opener.specs.declared.calls.Step.{Step}
+use Rattle.opener.specs.declared.calls.Step.TheVariants as step
+use Rattle.opener.specs.declared.calls.Stop.{Stop}
+use Rattle.opener.specs.declared.calls.Stop.TheVariants as stop
+use Rattle.opener.specs.declared.work.Running.{Running as Call}
+use Rattle.opener.specs.declared.work.End.TheVariants as end
+use Rattle.opener.specs.declared.work.Stage.{Stage}
+use Rattle.opener.specs.declared.work.Stage.TheVariants as stage
+use Rattle.opener.specs.declared.work.Work.{Work}
+use Rattle.opener.specs.declared.work.Work.TheVariants.{Idle, Ended, Runs}
+use Rattle.region_words.specs.Region.{Region}
+use Rattle.region_words.specs.Past.{locks_after, has_died, is_death}
+use Rattle.region_words.specs.Local.{Seated, seat_state, account_of}
+use Rattle.region_words.specs.Share.{ShareState, made_by}
+use Rattle.region_words.specs.Told.{History, OnTold}
+use Rattle.region_words.specs.declared.event.Event.{Event}
+use Rattle.region_words.specs.declared.event.What.{What}
+use Rattle.mmkv_top.specs.Parts.{Running, going_on}
+use Rattle.mmkv_top.specs.Played.{AreSteps, IsAnsweredBy}
+use Rattle.mmkv_top.specs.Player.{Follows, FollowsWork, CameTo, Stepped}
+
+-- what a call on the seat made
+record Moved (s t : Seated) : Type 0 where
+  own : List What
+  few : length own ≤ 1
+  who : t.who ≡ s.who
+  start : t.region.start ≡ s.region.start
+  past : t.region.past ≡ made_by s.who own ++ s.region.past
+  listed : t.region.failing.listed ≡ s.region.failing.listed
+
+moved : (s t : Seated) → MakesOne (seat_state s) (seat_state t) → Moved s t
+moved s t (inl same) =
+    record {
+      own = [];
+      few = omega arith;
+      who = ap (λ (x : ShareState). x.who) same;
+      start = ap (λ (x : ShareState). option_map_or (λ (h : History). h.start) x.told s.region.start) same;
+      past = ap (λ (x : ShareState). option_map_or (λ (h : History). h.past) x.told []) same;
+      listed = ap (λ (x : ShareState). option_map_or (λ (l : List ℕ). l) x.fails []) same;
+    }
+moved s t (inr h) =
+    record {
+      own = h.0.own;
+      few = h.2;
+      who = h.1.same.who;
+      start = h.1.told.start;
+      past = h.1.told.past ∙ ap (λ x. made_by s.who h.0.own ++ (x ++ s.region.past)) (h.1.told.none refl);
+      listed = ap (λ o. option_map_or (λ (l : List ℕ). l) o []) h.1.same.fails;
+    }
+
+pub right_false : (a b : Bool) → (a || b) ≡ false → b ≡ false
+right_false true b h = absurd cc
+right_false false b h = h
+
+left_false : (a b : Bool) → (a || b) ≡ false → a ≡ false
+left_false true b h = h
+left_false false b h = refl
+
+-- none of an opener's own events is its death where it lives on
+own_steps : (who : ℕ) (own : List What) (past : List Event) → has_died (made_by who own ++ past) who ≡ false → AreSteps who (made_by who own)
+own_steps who [] past h = tt
+own_steps who (what ∷ own) past h = (
+  (refl, no_death (who == who) (is_death what) (eq-eqb who who refl) (left_false ((who == who) && is_death what) (has_died (made_by who own ++ past) who) h)),
+  own_steps who own past (right_false ((who == who) && is_death what) (has_died (made_by who own ++ past) who) h),
+)
+  where
+    no_death : (a b : Bool) → a ≡ true → (a && b) ≡ false → b ≡ false
+    no_death true b e h = h
+    no_death false b e h = absurd cc
+
+steps_join : (who : ℕ) (xs ys : List Event) → AreSteps who xs → AreSteps who ys → AreSteps who (xs ++ ys)
+steps_join who [] ys h k = k
+steps_join who (x ∷ xs) ys h k = (h.0, steps_join who xs ys h.1 k)
+
+-- a stop that is found is none of a fault
+found_seen : (o : OpenerState) (work : Work) → IsAt o work → IfSome (stop_found work) IsSeen
+found_seen o Idle at = tt
+found_seen o Ended at = tt
+found_seen o (Runs c stage.PeekChecksum) at = tt
+found_seen o (Runs c (stage.PeekSequence peek)) at = tt
+found_seen o (Runs c stage.LockShared) at = tt
+found_seen o (Runs c stage.LockExclusive) at = tt
+found_seen o (Runs c (stage.Load loading)) at = tt
+found_seen o (Runs c stage.Size) at = tt
+found_seen o (Runs c (stage.Reserve plan)) at = tt
+found_seen o (Runs c (stage.Store plan)) at = tt
+found_seen o (Runs c (stage.Unlock (end.Answer place reply))) at = tt
+found_seen o (Runs c (stage.Unlock (end.Stop why))) at = at.2.1
+found_seen o (Runs c stage.Hold) at = tt
+found_seen o (Runs c stage.Release) at = tt
+
+no_fault : (found : Option Stop) (work : Work) (s t : Seated) → IfSome found IsSeen → s.region.failing.listed ≡ [] →
+    HasStopped found work stop.Fault (seat_state s) (seat_state t) → ⊥
+no_fault None work s t seen steady h = h.due.0 steady
+no_fault (Some found) work s t seen steady (inl same) = subst IsSeen (sym same) seen
+no_fault (Some found) work s t seen steady (inr h) = h.1.due.0 steady
+
+runs_on : (c : Call) (r : Running) (own : List Event) (work : Work) → Follows c r → RunsOn c work → FollowsWork work (Some (going_on own r))
+runs_on c r own Idle follows on = absurd on
+runs_on c r own Ended follows on = absurd on
+runs_on c r own (Runs next stage) follows on =
+    record { call = on.call ∙ follows.call; moment = on.now ∙ follows.moment; begun = on.begun ∙ follows.begun }
+
+answered : (a : Answer) (who : ℕ) (c : Call) (r : Running) (own : List Event) (start : Region) (past : List Event) → who ≡ 1 → Follows c r → IsAnswerOf a who c →
+    IsAnswer a start past → IsAnsweredBy past (going_on own r) 1 a
+answered a who c r own start past one follows of is =
+    record {
+      by = of.by ∙ one;
+      call_is = of.call_is ∙ follows.call;
+      moment = of.moment ∙ follows.moment;
+      begun = of.begun ∙ follows.begun;
+      place_begun = is.begun;
+      place_ended = is.placed;
+      within = is.within;
+    }
+
+-- what a step of a call that runs comes to
+module _ (s t : Seated) (seat : t.who ≡ 1) (steady : s.region.failing.listed ≡ []) where
+  call_came : (o o' : OpenerState) (c : Call) (at : Stage) (r : Running) (own : List Event) (held : ℕ) (result : Step) → o.who ≡ 1 → o.holds ≡ held →
+      IsAt o (Runs c at) → Follows c r → KeepsCall o.who o.holds c result o' →
+      HasCause (Runs c at) result o'.work (seat_state s) (seat_state t) →
+      OnAnswer result (λ a. IsAnswer a t.region.start t.region.past) → CameTo t.region.past held (Some (going_on own r)) result o'
+  call_came o o' c at r own held step.Idle one same is follows keeps cause answer = absurd keeps
+  call_came o o' c at r own held step.Going one same is follows keeps cause answer = (runs_on c r own o'.work follows keeps.0, keeps.1 ∙ same)
+  call_came o o' c at r own held step.Again one same is follows keeps cause answer = let t : true ≡ false = cause.0.takes_turns in absurd cc
+  call_came o o' c at r own held (step.Blocked holder) one same is follows keeps cause answer =
+      (runs_on c r own o'.work follows keeps.0, keeps.1 ∙ same, (cause.0, subst (λ w. IsLeastAgainst (locks_after t.region.past) w cause.0 holder) seat cause.1.1))
+  call_came o o' c at r own held (step.Answered a) one same is follows keeps cause answer =
+      (keeps.1, keeps.2 ∙ ap (λ x. holds_after x o.holds) follows.call ∙ ap (holds_after r.call) same, answered a o.who c r own t.region.start t.region.past one follows keeps.0 answer)
+  call_came o o' c at r own held (step.Stopped why) one same is follows keeps cause answer = stopped why keeps cause
+    where
+      stopped : (why : Stop) → KeepsCall o.who o.holds c (step.Stopped why) o' → HasCause (Runs c at) (step.Stopped why) o'.work (seat_state s) (seat_state t) →
+          (o'.work ≡ Idle) × (o'.holds ≡ held)
+      stopped stop.Fault k h = absurd (no_fault (stop_found (Runs c at)) (Runs c at) s t (found_seen o (Runs c at) is) steady h)
+      stopped stop.Memory k h = (k.0, k.1 ∙ same)
+      stopped stop.JournalFull k h = (k.0, k.1 ∙ same)
+      stopped (stop.NotWhole seen) k h = (k.0, k.1 ∙ same)
+      stopped (stop.Version n) k h = (k.0, k.1 ∙ same)
+      stopped (stop.Flags n) k h = (k.0, k.1 ∙ same)
+      stopped (stop.Full need) k h = (k.0, k.1 ∙ same)
+      stopped stop.SequenceEnd k h = (k.0, k.1 ∙ same)
+      stopped stop.ExpiryOff k h = (k.0, k.1 ∙ same)
+      stopped stop.ExpiryRange k h = (k.0, k.1 ∙ same)
+
+  -- what a step comes to
+  step_came : (o o' : OpenerState) (work : Work) (r : Option Running) (own : List Event) (held : ℕ) (result : Step) → o.who ≡ 1 → o.holds ≡ held →
+      IsAt o work → FollowsWork work r → KeepsWork (record o { work = work }) result o' →
+      HasCause work result o'.work (seat_state s) (seat_state t) →
+      OnAnswer result (λ a. IsAnswer a t.region.start t.region.past) → CameTo t.region.past held (option_map (going_on own) r) result o'
+  step_came o o' Idle None own held result one same is follows keeps cause answer =
+      subst (λ x. CameTo t.region.past held None x o') (sym keeps.0) (subst (λ (x : OpenerState). FollowsWork x.work None × (x.holds ≡ held)) (sym keeps.1) (tt, same))
+  step_came o o' Idle (Some r) own held result one same is follows keeps cause answer = absurd follows
+  step_came o o' Ended None own held result one same is follows keeps cause answer = absurd follows
+  step_came o o' Ended (Some r) own held result one same is follows keeps cause answer = absurd follows
+  step_came o o' (Runs c at) None own held result one same is follows keeps cause answer = absurd follows
+  step_came o o' (Runs c at) (Some r) own held result one same is follows keeps cause answer = call_came o o' c at r own held result one same is follows keeps cause answer
+
+pub follows_alive : (work : Work) (r : Option Running) → FollowsWork work r → is_ended work ≡ false
+follows_alive Idle r h = refl
+follows_alive Ended None h = absurd h
+follows_alive Ended (Some r) h = absurd h
+follows_alive (Runs c at) r h = refl
+
+-- the opener lives on
+came_alive : (past : List Event) (held : ℕ) (r : Option Running) (result : Step) (o : OpenerState) → CameTo past held r result o → is_ended o.work ≡ false
+came_alive past held r step.Going o h = follows_alive o.work r h.0
+came_alive past held None step.Idle o h = follows_alive o.work None h.0
+came_alive past held (Some r) (step.Blocked holder) o h = follows_alive o.work (Some r) h.0
+came_alive past held (Some r) (step.Answered a) o h = ap is_ended h.0
+came_alive past held (Some r) (step.Stopped why) o h = ap is_ended h.0
+came_alive past held None step.Again o h = absurd h
+came_alive past held None (step.Blocked holder) o h = absurd h
+came_alive past held None (step.Answered a) o h = absurd h
+came_alive past held None (step.Stopped why) o h = absurd h
+came_alive past held (Some r) step.Idle o h = absurd h
+came_alive past held (Some r) step.Again o h = absurd h
+
+-- without a call nothing is made
+idle_makes_none : (s t : Seated) (o o' : OpenerState) (work : Work) (result : Step) → FollowsWork work None → KeepsWork (record o { work = work }) result o' →
+    HasCause work result o'.work (seat_state s) (seat_state t) → t.region.past ≡ s.region.past
+idle_makes_none s t o o' Idle result follows keeps cause =
+    let stays : seat_state t ≡ seat_state s = subst (λ x. HasCause Idle x o'.work (seat_state s) (seat_state t)) keeps.0 cause in
+    ap (λ (x : ShareState). option_map_or (λ (h : History). h.past) x.told []) stays
+idle_makes_none s t o o' Ended result follows keeps cause = absurd follows
+idle_makes_none s t o o' (Runs c at) result follows keeps cause = absurd follows
+
+no_events : (xs ys : List Event) → xs ++ ys ≡ ys → xs ≡ []
+no_events [] ys h = refl
+no_events (x ∷ xs) ys h = absurd (omega (arith, ap length h, length-append xs ys))
+
+going_twice : (own made : List Event) (before : Option Running) → option_map (going_on own) (option_map (going_on made) before) ≡ option_map (going_on (own ++ made)) before
+going_twice own made None = refl
+going_twice own made (Some r) = ap (λ x. Some (record r { since = x })) (sym (append_assoc own made r.since))
+
+abbrev event_by : ℕ → What → Event
+event_by who what = record { who = who; what = what }
+
+-- one step more
+pub one_more : (start : Region) (past : List Event) (held : ℕ) (before : Option Running) (n : ℕ) (made : List Event)
+    (o o' : OpenerState) (s t : Seated) (result : Step) →
+    Stepped start past held before n step.Going made o s → Tied o (seat_state s) → Tied o' (seat_state t) →
+    MakesOne (seat_state s) (seat_state t) → KeepsWork o result o' → HasCause o.work result o'.work (seat_state s) (seat_state t) →
+    OnAnswer result (λ a. OnTold (seat_state t).told (λ h. IsAnswer a h.start h.past)) →
+    (more : List Event) × Stepped start past held before (n + 1) result more o' t
+one_more start past held before n made o o' s t result st tied tied' makes keeps cause answer =
+    let m = moved s t makes in
+    let own = made_by 1 m.own in
+    let grown : t.region.past ≡ own ++ s.region.past = m.past ∙ ap (λ w. made_by w m.own ++ s.region.past) st.seat in
+    let seat : t.who ≡ 1 = m.who ∙ st.seat in
+    let came = step_came s t seat st.steady o o' o.work (option_map (going_on made) before) own held result st.who st.came.1 tied.at st.came.0 keeps cause answer in
+    let alive : has_died t.region.past t.who ≡ false =
+    right_false (not (account_of t.region.accounts t.who).admitted) (has_died t.region.past t.who)
+    (tied'.ended ∙ came_alive t.region.past held (option_map (going_on own) (option_map (going_on made) before)) result o' came) in
+    let alive_now : has_died (own ++ s.region.past) 1 ≡ false = sym (ap (λ x. has_died x 1) grown) ∙ sym (ap (has_died t.region.past) seat) ∙ alive in (
+      own ++ made,
+      record {
+        few = omega (arith, length-append own made, length-map m.own (event_by 1), m.few, st.few);
+        own = steps_join 1 own made (own_steps 1 m.own s.region.past alive_now) st.own;
+        idle = λ none. let still : t.region.past ≡ s.region.past = idle_makes_none s t o o' o.work result (subst (λ b. FollowsWork o.work (option_map (going_on made) b)) none st.came.0) keeps cause in
+            ap (λ x. x ++ made) (no_events own s.region.past (sym grown ∙ still)) ∙ st.idle none;
+        who = sym tied'.who ∙ seat;
+        seat = seat;
+        start_is = m.start ∙ st.start_is;
+        past_is = grown ∙ ap (λ x. own ++ x) st.past_is ∙ sym (append_assoc own made past);
+        steady = m.listed ∙ st.steady;
+        answer = answer;
+        came = subst (λ r. CameTo t.region.past held r result o') (going_twice own made before) came;
+      },
+    )
+
+pub seat_stays : (s t : Seated) → MakesOne (seat_state s) (seat_state t) → t.who ≡ s.who
+seat_stays s t makes = (moved s t makes).who
+
+pub at_most : (start : Region) (past : List Event) (held : ℕ) (before : Option Running) (n count : ℕ) (result : Step) (made : List Event) (o : OpenerState) (s : Seated) →
+    n ≤ count → Stepped start past held before n result made o s → Stepped start past held before count result made o s
+at_most start past held before n count result made o s below st =
+    record {
+      few = omega (arith, st.few, below);
+      own = st.own;
+      idle = st.idle;
+      who = st.who;
+      seat = st.seat;
+      start_is = st.start_is;
+      past_is = st.past_is;
+      steady = st.steady;
+      answer = st.answer;
+      came = st.came;
+    }
+
+-- one step more on the way
+pub step_more : (count n : ℕ) (o1 : OpenerState) (s1 : Seated) (o o' : OpenerState) (s t : Seated) (result : Step) → n + 1 ≤ count →
+    ((start : Region) (past : List Event) (held : ℕ) (before : Option Running) → Stepped start past held before 0 step.Going [] o1 s1 →
+    (made : List Event) × Stepped start past held before n step.Going made o s) → Tied o (seat_state s) → Tied o' (seat_state t) →
+    MakesOne (seat_state s) (seat_state t) → KeepsWork o result o' → HasCause o.work result o'.work (seat_state s) (seat_state t) →
+    OnAnswer result (λ a. OnTold (seat_state t).told (λ h. IsAnswer a h.start h.past)) →
+    (start : Region) (past : List Event) (held : ℕ) (before : Option Running) → Stepped start past held before 0 step.Going [] o1 s1 →
+    (made : List Event) × Stepped start past held before count result made o' t
+step_more count n o1 s1 o o' s t result below so_far tied tied' makes keeps cause answer start past held before first =
+    let now = so_far start past held before first in
+    let next = one_more start past held before n now.0 o o' s t result now.1 tied tied' makes keeps cause answer in
+    (next.0, at_most start past held before (n + 1) count result next.0 o' t below next.1)

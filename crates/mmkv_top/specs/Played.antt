@@ -1,0 +1,115 @@
+-- A script that was played: what each line may make. Parts and events stand with the latest first.
+use Rattle.std.specs.Prelude.{◌≡◌, ℕ, ◌<◌, ◌≤◌, Bool, true, false, List, [], ◌∷◌, ◌++◌, Option, Some, None, length, filter, IsTrue, ⊤}
+use Rattle.std.specs.List.{AllByRecursion}
+use Rattle.change_log.specs.declared.call.Answer.{Answer}
+use Rattle.change_log.specs.declared.call.Call.{Call}
+use Rattle.handlers.specs.declared.handler.Strategy.{Strategy}
+use Rattle.handlers.specs.declared.handler.Strategy.TheVariants.{Discard, Recover, Leave}
+use Rattle.handlers.specs.declared.stock.HandlerStock.{HandlerStock}
+use Rattle.lock_rules.specs.Locks.{IsLeastAgainst}
+use Rattle.lock_rules.specs.declared.table.LockKind.{LockKind}
+use Rattle.opener.specs.Begins.{call_refusal}
+use Rattle.region_words.specs.Past.{changes_of, locks_after, is_death}
+use Rattle.region_words.specs.declared.event.What.TheVariants.{Died}
+use Rattle.region_words.specs.declared.event.Event.{Event}
+use Rattle.region_words.specs.declared.event.TornWord.{TornWord}
+use Rattle.script_lang.specs.declared.line.Line.{Line}
+use Rattle.script_lang.specs.declared.line.Line.TheVariants.{Open, Begin, Step, Die, Next}
+use Rattle.script_lang.specs.declared.outcome.Outcome.{Outcome}
+use Rattle.script_lang.specs.declared.outcome.Outcome.TheVariants.{Answered, Blocked, Stopped}
+use Rattle.script_lang.specs.declared.outcome.Reason.{Reason}
+use Rattle.script_lang.specs.declared.outcome.Reason.TheVariants as reason
+use Rattle.mmkv_top.specs.Parts.{Part, past_of, lives, holds_of, strategies, Running, running, going_on}
+
+-- how many handlers of each strategy a stock has
+pub record Stock : Type 0 where
+  pub discard : ℕ
+  pub recover : ℕ
+  pub leave : ℕ
+
+abbrev pub stock_of : {A : Type 0} {Is : A → Type 0} → HandlerStock A Is → Stock
+stock_of handlers = record { discard = length handlers.discard.items; recover = length handlers.recover.items; leave = length handlers.leave.items }
+
+abbrev pub stocked : Stock → Strategy → ℕ
+stocked stock Discard = stock.discard
+stocked stock Recover = stock.recover
+stocked stock Leave = stock.leave
+
+abbrev pub is_same : Strategy → Strategy → Bool
+is_same Discard Discard = true
+is_same Recover Recover = true
+is_same Leave Leave = true
+is_same _ _ = false
+
+-- how many of these have this strategy
+abbrev pub drawn : Strategy → List Strategy → ℕ
+drawn strategy opened = length (filter (is_same strategy) opened)
+
+-- a call may begin
+pub record MayStart (parts : List Part) (who : ℕ) (call : Call) : Type 0 where
+  pub alive : IsTrue (lives who parts)
+  pub idle : running who parts ≡ None
+  pub asks : call_refusal call (holds_of who parts) ≡ None
+
+-- what a line names may be done after these
+abbrev pub MayCome : Stock → List Part → Line → Type 0
+MayCome stock parts (Open strategy) = (length (strategies parts) < 64) × (drawn strategy (strategies parts) < stocked stock strategy)
+MayCome stock parts (Begin who now call) = MayStart parts who call
+MayCome stock parts (Step who count) = IsTrue (lives who parts)
+MayCome stock parts (Die who bits) = IsTrue (lives who parts)
+MayCome stock parts (Next who now call) = ⊥
+
+-- the events of a step line: all of the opener, none a death
+abbrev pub AreSteps : ℕ → List Event → Type 0
+AreSteps who made = AllByRecursion (λ e. (e.who ≡ who) × (is_death e.what ≡ false)) made
+
+-- the call is answered: the answer's place lies between its begin and its end
+pub record IsAnsweredBy (past : List Event) (c : Running) (who : ℕ) (a : Answer) : Type 0 where
+  pub by : a.who ≡ who
+  pub call_is : a.call ≡ c.call
+  pub moment : a.now ≡ c.now
+  pub begun : a.begun ≡ length (changes_of c.past)
+  pub place_begun : a.begun ≤ a.place
+  pub place_ended : a.place ≤ a.ended
+  pub within : a.ended ≤ length (changes_of past)
+
+-- the reasons that are printed so far: damage and the switch of the expiry aren't there yet
+abbrev pub IsPrinted : Reason → Type 0
+IsPrinted (reason.Full need) = ⊤
+IsPrinted reason.SequenceEnd = ⊤
+IsPrinted reason.ExpiryOff = ⊤
+IsPrinted reason.ExpiryRange = ⊤
+IsPrinted _ = ⊥
+
+-- what ends a step line of a running call: it goes on, is answered, waits for the least holder that stands against its try, or is stopped
+abbrev pub IsOutcomeOf : List Event → Running → ℕ → Option Outcome → Type 0
+IsOutcomeOf past c who None = ⊤
+IsOutcomeOf past c who (Some (Answered a)) = IsAnsweredBy past c who a
+IsOutcomeOf past c who (Some (Blocked w holder)) = (w ≡ who) × ((kind : LockKind) × IsLeastAgainst (locks_after past) who kind holder)
+IsOutcomeOf past c who (Some (Stopped w why)) = (w ≡ who) × IsPrinted why
+
+-- the part of a step line of a running call
+pub record StepsOf (past : List Event) (who count : ℕ) (c : Running) (made : List Event) (outcome : Option Outcome) : Type 0 where
+  pub few : length made ≤ count
+  pub own : AreSteps who made
+  pub ends : IsOutcomeOf (made ++ past) (going_on made c) who outcome
+
+-- without a running call nothing is made
+abbrev pub IsStepLine : List Event → ℕ → ℕ → Option Running → List Event → Option Outcome → Type 0
+IsStepLine past who count None made outcome = (made ≡ []) × (outcome ≡ None)
+IsStepLine past who count (Some c) made outcome = StepsOf past who count c made outcome
+
+-- what a line makes after these
+abbrev pub Makes : List Part → Line → List Event → Option Outcome → Type 0
+Makes parts (Step who count) made outcome = IsStepLine (past_of parts) who count (running who parts) made outcome
+Makes parts (Die who bits) made outcome = ((t : Option TornWord) × (made ≡ record { who = who; what = Died t } ∷ [])) × (outcome ≡ None)
+Makes parts _ made outcome = (made ≡ []) × (outcome ≡ None)
+
+abbrev pub IsPartOf : Stock → List Part → Option Line → List Event → Option Outcome → Type 0
+IsPartOf stock parts None made outcome = (made ≡ []) × (outcome ≡ None)
+IsPartOf stock parts (Some l) made outcome = MayCome stock parts l × Makes parts l made outcome
+
+-- each line made what it may
+abbrev pub ArePlayed : Stock → List Part → Type 0
+ArePlayed stock [] = Unit {0}
+ArePlayed stock (p ∷ parts) = ArePlayed stock parts × IsPartOf stock parts p.line p.made p.outcome
