@@ -37,7 +37,7 @@ get_inside (x ∷ xs) (suc i) c e = omega (arith, get_inside xs i c e)
 pub is_answer : (who ended place : ℕ) (reply : Reply) (running : Running) (start : Region) (past : List Event) → EndIs who (end.Answer place reply) running start past →
     ended ≡ length (changes_of past) → IsAnswer (answer_of who running place ended reply) start past
 is_answer who ended place reply running start past is e =
-    record { begun = is.0; placed = omega (arith, is.1, e); within = omega (arith, e); reply = is.2; made = made (act_of running.call running.now) is.3 }
+    record { begun = is.0; placed = omega (arith, is.1, e); ended = e; reply = is.2; made = made (act_of running.call running.now) is.3 }
   where
     made : (act : Option Act) → IfSome act (λ a. slice_get (changes_of past) place ≡ Some (record { maker = who; act = a })) →
         IfSome act (λ a. (place < ended) × (slice_get (changes_of past) place ≡ Some (record { maker = who; act = a })))

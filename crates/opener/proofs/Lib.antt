@@ -1,3 +1,6 @@
+pub mod Added
+pub mod Adding
+pub mod AddsBy
 pub mod Begun
 pub mod Carry
 pub mod EndClauses

@@ -221,7 +221,7 @@ pub record Tied (o : OpenerState) (s : ShareState) : Type 0 where
 pub record IsAnswer (a : Answer) (start : Region) (past : List Event) : Type 0 where
   pub begun : a.begun ≤ a.place
   pub placed : a.place ≤ a.ended
-  pub within : a.ended ≤ length (changes_of past)
+  pub ended : a.ended ≡ length (changes_of past)
   pub reply : ReplyIs a.call a.now a.reply a.place start past
   pub made : IsMade (base start) (changes_of past) a
 

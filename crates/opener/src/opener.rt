@@ -3,6 +3,7 @@ ghost use Rattle.std.specs.Prelude.{◌≡◌, ◌≤◌, None, Some, IfOk, IfEr
 ghost use Rattle.region_words.specs.Told.{OnTold, changes_told as changes_seen};
 ghost use Rattle.opener.specs.Calls.{IsBuilt};
 ghost use Rattle.opener.specs.Begins.{Begins, HasBytes, IsFirst, begun_at, refusal};
+ghost use Rattle.opener.specs.Adds.{Adds, AddsTo};
 ghost use Rattle.opener.specs.Opener.{Tied, running_as, HasCause, IsAnswer, KeepsCall, KeepsWork, OnAnswer, MakesOne};
 
 use crate::calls::{NotBegun, Refused, Step};
@@ -112,6 +113,7 @@ impl Opener {
         requires { Tied self.old (S.state share.old) }
         ensures tied { Tied self.new (S.state share.new) }
         ensures makes { MakesOne (S.state share.old) (S.state share.new) }
+        ensures adds { AddsTo self.old.who self.old.work result self.new.work (S.state share.old) (S.state share.new) }
         ensures call { KeepsWork self.old result self.new }
         ensures cause { HasCause self.old.work result self.new.work (S.state share.old) (S.state share.new) }
         ensures answer { OnAnswer result (λ a. OnTold (S.state share.new).told (λ h. IsAnswer a h.start h.past)) }
@@ -130,6 +132,7 @@ impl Opener {
         requires { Tied (running_as self.old running stage) (S.state share.old) }
         ensures tied { Tied self.new (S.state share.new) }
         ensures makes { MakesOne (S.state share.old) (S.state share.new) }
+        ensures adds { Adds self.old.who running stage result self.new.work (S.state share.old) (S.state share.new) }
         ensures call { KeepsCall self.old.who self.old.holds running result self.new }
         ensures cause { HasCause (Work.Runs running stage) result self.new.work (S.state share.old) (S.state share.new) }
         ensures answer { OnAnswer result (λ a. OnTold (S.state share.new).told (λ h. IsAnswer a h.start h.past)) }

@@ -4,6 +4,7 @@ ghost use Rattle.region_words.specs.Told.{OnTold};
 ghost use Rattle.opener.specs.Calls.{is_write};
 ghost use Rattle.opener.specs.Ends.{Replies, answer_of, stop_of};
 ghost use Rattle.opener.specs.declared.work.Work.TheVariants.{Runs};
+ghost use Rattle.opener.specs.Adds.{Adds};
 ghost use Rattle.opener.specs.Opener.{Tied, running_as, HasCause, IsAnswer, KeepsCall, OnAnswer, MakesOne};
 
 use crate::calls::{Step, Stop};
@@ -22,6 +23,7 @@ impl Opener {
         requires { Tied (running_as self.old running Stage.PeekChecksum) (S.state share.old) }
         ensures tied { Tied self.new (S.state share.new) }
         ensures makes { MakesOne (S.state share.old) (S.state share.new) }
+        ensures adds { Adds self.old.who running Stage.PeekChecksum result self.new.work (S.state share.old) (S.state share.new) }
         ensures call { KeepsCall self.old.who self.old.holds running result self.new }
         ensures cause { HasCause (Runs running Stage.PeekChecksum) result self.new.work (S.state share.old) (S.state share.new) }
         ensures answer { OnAnswer result (λ a. OnTold (S.state share.new).told (λ h. IsAnswer a h.start h.past)) }
@@ -41,6 +43,7 @@ impl Opener {
         requires { Tied (running_as self.old running (Stage.PeekSequence peek)) (S.state share.old) }
         ensures tied { Tied self.new (S.state share.new) }
         ensures makes { MakesOne (S.state share.old) (S.state share.new) }
+        ensures adds { Adds self.old.who running (Stage.PeekSequence peek) result self.new.work (S.state share.old) (S.state share.new) }
         ensures call { KeepsCall self.old.who self.old.holds running result self.new }
         ensures cause { HasCause (Runs running (Stage.PeekSequence peek)) result self.new.work (S.state share.old) (S.state share.new) }
         ensures answer { OnAnswer result (λ a. OnTold (S.state share.new).told (λ h. IsAnswer a h.start h.past)) }
@@ -61,6 +64,7 @@ impl Opener {
         requires { Tied (running_as self.old running Stage.LockShared) (S.state share.old) }
         ensures tied { Tied self.new (S.state share.new) }
         ensures makes { MakesOne (S.state share.old) (S.state share.new) }
+        ensures adds { Adds self.old.who running Stage.LockShared result self.new.work (S.state share.old) (S.state share.new) }
         ensures call { KeepsCall self.old.who self.old.holds running result self.new }
         ensures cause { HasCause (Runs running Stage.LockShared) result self.new.work (S.state share.old) (S.state share.new) }
         ensures answer { OnAnswer result (λ a. OnTold (S.state share.new).told (λ h. IsAnswer a h.start h.past)) }
@@ -84,6 +88,7 @@ impl Opener {
         requires { Tied (running_as self.old running (Stage.Load loading)) (S.state share.old) }
         ensures tied { Tied self.new (S.state share.new) }
         ensures makes { MakesOne (S.state share.old) (S.state share.new) }
+        ensures adds { Adds self.old.who running (Stage.Load loading) result self.new.work (S.state share.old) (S.state share.new) }
         ensures call { KeepsCall self.old.who self.old.holds running result self.new }
         ensures cause { HasCause (Runs running (Stage.Load loading)) result self.new.work (S.state share.old) (S.state share.new) }
         ensures answer { OnAnswer result (λ a. OnTold (S.state share.new).told (λ h. IsAnswer a h.start h.past)) }
@@ -110,6 +115,7 @@ impl Opener {
         requires { Tied (running_as self.old running (Stage.Unlock end)) (S.state share.old) }
         ensures tied { Tied self.new (S.state share.new) }
         ensures makes { MakesOne (S.state share.old) (S.state share.new) }
+        ensures adds { Adds self.old.who running (Stage.Unlock end) result self.new.work (S.state share.old) (S.state share.new) }
         ensures call { KeepsCall self.old.who self.old.holds running result self.new }
         ensures cause { HasCause (Runs running (Stage.Unlock end)) result self.new.work (S.state share.old) (S.state share.new) }
         ensures answer { OnAnswer result (λ a. OnTold (S.state share.new).told (λ h. IsAnswer a h.start h.past)) }
@@ -124,6 +130,7 @@ impl Opener {
         requires { Tied (running_as self.old running Stage.Hold) (S.state share.old) }
         ensures tied { Tied self.new (S.state share.new) }
         ensures makes { MakesOne (S.state share.old) (S.state share.new) }
+        ensures adds { Adds self.old.who running Stage.Hold result self.new.work (S.state share.old) (S.state share.new) }
         ensures call { KeepsCall self.old.who self.old.holds running result self.new }
         ensures cause { HasCause (Runs running Stage.Hold) result self.new.work (S.state share.old) (S.state share.new) }
         ensures answer { OnAnswer result (λ a. OnTold (S.state share.new).told (λ h. IsAnswer a h.start h.past)) }
@@ -147,6 +154,7 @@ impl Opener {
         requires { Tied (running_as self.old running Stage.Release) (S.state share.old) }
         ensures tied { Tied self.new (S.state share.new) }
         ensures makes { MakesOne (S.state share.old) (S.state share.new) }
+        ensures adds { Adds self.old.who running Stage.Release result self.new.work (S.state share.old) (S.state share.new) }
         ensures call { KeepsCall self.old.who self.old.holds running result self.new }
         ensures cause { HasCause (Runs running Stage.Release) result self.new.work (S.state share.old) (S.state share.new) }
         ensures answer { OnAnswer result (λ a. OnTold (S.state share.new).told (λ h. IsAnswer a h.start h.past)) }

@@ -1,5 +1,6 @@
 // The stages of a write, each with one call on the share.
 ghost use Rattle.region_words.specs.Told.{OnTold};
+ghost use Rattle.opener.specs.Adds.{Adds};
 ghost use Rattle.opener.specs.Opener.{Tied, running_as, HasCause, IsAnswer, KeepsCall, OnAnswer, MakesOne};
 ghost use Rattle.opener.specs.declared.work.Work.TheVariants.{Runs};
 
@@ -20,6 +21,7 @@ impl Opener {
         requires { Tied (running_as self.old running Stage.LockExclusive) (S.state share.old) }
         ensures tied { Tied self.new (S.state share.new) }
         ensures makes { MakesOne (S.state share.old) (S.state share.new) }
+        ensures adds { Adds self.old.who running Stage.LockExclusive result self.new.work (S.state share.old) (S.state share.new) }
         ensures call { KeepsCall self.old.who self.old.holds running result self.new }
         ensures cause { HasCause (Runs running Stage.LockExclusive) result self.new.work (S.state share.old) (S.state share.new) }
         ensures answer { OnAnswer result (λ a. OnTold (S.state share.new).told (λ h. IsAnswer a h.start h.past)) }
@@ -40,6 +42,7 @@ impl Opener {
         requires { Tied (running_as self.old running Stage.Size) (S.state share.old) }
         ensures tied { Tied self.new (S.state share.new) }
         ensures makes { MakesOne (S.state share.old) (S.state share.new) }
+        ensures adds { Adds self.old.who running Stage.Size result self.new.work (S.state share.old) (S.state share.new) }
         ensures call { KeepsCall self.old.who self.old.holds running result self.new }
         ensures cause { HasCause (Runs running Stage.Size) result self.new.work (S.state share.old) (S.state share.new) }
         ensures answer { OnAnswer result (λ a. OnTold (S.state share.new).told (λ h. IsAnswer a h.start h.past)) }
@@ -57,6 +60,7 @@ impl Opener {
         requires { Tied (running_as self.old running (Stage.Reserve plan)) (S.state share.old) }
         ensures tied { Tied self.new (S.state share.new) }
         ensures makes { MakesOne (S.state share.old) (S.state share.new) }
+        ensures adds { Adds self.old.who running (Stage.Reserve plan) result self.new.work (S.state share.old) (S.state share.new) }
         ensures call { KeepsCall self.old.who self.old.holds running result self.new }
         ensures cause { HasCause (Runs running (Stage.Reserve plan)) result self.new.work (S.state share.old) (S.state share.new) }
         ensures answer { OnAnswer result (λ a. OnTold (S.state share.new).told (λ h. IsAnswer a h.start h.past)) }
@@ -84,6 +88,7 @@ impl Opener {
         requires { Tied (running_as self.old running (Stage.Store (Plan.Rewrite rewriting then map))) (S.state share.old) }
         ensures tied { Tied self.new (S.state share.new) }
         ensures makes { MakesOne (S.state share.old) (S.state share.new) }
+        ensures adds { Adds self.old.who running (Stage.Store (Plan.Rewrite rewriting then map)) result self.new.work (S.state share.old) (S.state share.new) }
         ensures call { KeepsCall self.old.who self.old.holds running result self.new }
         ensures cause { HasCause (Runs running (Stage.Store (Plan.Rewrite rewriting then map))) result self.new.work (S.state share.old) (S.state share.new) }
         ensures answer { OnAnswer result (λ a. OnTold (S.state share.new).told (λ h. IsAnswer a h.start h.past)) }
@@ -125,6 +130,7 @@ impl Opener {
         requires { Tied (running_as self.old running (Stage.Store (Plan.Append appending map))) (S.state share.old) }
         ensures tied { Tied self.new (S.state share.new) }
         ensures makes { MakesOne (S.state share.old) (S.state share.new) }
+        ensures adds { Adds self.old.who running (Stage.Store (Plan.Append appending map)) result self.new.work (S.state share.old) (S.state share.new) }
         ensures call { KeepsCall self.old.who self.old.holds running result self.new }
         ensures cause { HasCause (Runs running (Stage.Store (Plan.Append appending map))) result self.new.work (S.state share.old) (S.state share.new) }
         ensures answer { OnAnswer result (λ a. OnTold (S.state share.new).told (λ h. IsAnswer a h.start h.past)) }

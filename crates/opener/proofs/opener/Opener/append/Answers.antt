@@ -1,8 +1,11 @@
-use Rattle.std.proofs.Common.{sym, subst, refl, ap, ◌∙◌}
+use Rattle.std.proofs.Common.{◌∷◌, sym, subst, refl, ap, ◌∙◌, append-nil}
 use Rattle.region_words.specs.Lawful.{room_of}
-use Rattle.region_words.specs.Making.{Making}
+use Rattle.region_words.specs.Past.{change_of}
+use Rattle.region_words.specs.Making.{Making, next_of}
 use Rattle.opener.specs.State.{OpenerState}
 use Rattle.opener.specs.Calls.{AfterStop}
+use Rattle.opener.specs.Counted.{with_stored}
+use Rattle.opener.specs.Writes.{commits_of}
 use Rattle.opener.specs.Ends.{Written}
 use Rattle.opener.specs.Opener.{Tied}
 use Rattle.opener.specs.declared.plan.Plan.TheVariants.{Append}
@@ -15,6 +18,8 @@ use Rattle.opener.proofs.StopClauses.{stopped_makes, stopped_call, stopped_cause
 use Rattle.opener.proofs.Stopped.{stopped_tied}
 use Rattle.opener.proofs.Stored.{stored_tied}
 use Rattle.opener.proofs.Written.{written_tied, written_answer}
+use Rattle.opener.proofs.Added.{stopped_adds}
+use Rattle.opener.proofs.AddsBy.{event_goes, event_written}
 use Rattle.opener.proofs.opener.Opener.append.Goals as goal
 
 pub step-requires-clause-some : goal.step-requires-clause-some
@@ -116,3 +121,35 @@ returns-in-Err-clause-cause g c =
 
 pub returns-in-Err-clause-answer : goal.returns-in-Err-clause-answer
 returns-in-Err-clause-answer g c = stopped_answer c.in-Err.stop c.args.self.now c.args.running (Store (Append c.step.new.self c.args.map)) c.stopped.result c.stopped.new.self _ c.stopped.ensures
+
+pub returns-in-Ok-More-clause-adds : goal.returns-in-Ok-More-clause-adds
+returns-in-Ok-More-clause-adds g c =
+    let o = c.args.self.now in
+    let s = g.S.Share.state c.args.share.now in
+    let t = g.S.Share.state c.step.new.share in
+    let b = c.step.new.self in
+    let made = c.in-Ok-More.ensures.made in
+    let next = c.with_event.result in
+    let is = c.with_event.ensures ∙ ap (λ e. with_stored e c.args.running) (c.next-event.ensures ∙ ap next_of made.1) in
+    event_goes o.who c.args.running next (Store (Append c.args.appending c.args.map)) o c.going.result c.going.new.self s t made.0 b.events (Append c.args.appending c.args.map) (Append c.step.new.self c.args.map)
+    refl made.2 is (ap commits_of made.1) c.going.ensures
+
+pub returns-in-Ok-Done-clause-adds : goal.returns-in-Ok-Done-clause-adds
+returns-in-Ok-Done-clause-adds g c =
+    let o = c.args.self.now in
+    let s = g.S.Share.state c.args.share.now in
+    let t = g.S.Share.state c.step.new.share in
+    let b = c.step.new.self in
+    let made = c.in-Ok-Done.ensures.made in
+    let next = c.with_event-in-Ok-Done.result in
+    let over = all_made b.events (sym c.in-Ok-Done.ensures.stored ∙ c.in-Ok-Done.field-0-is) in
+    let is = c.with_event-in-Ok-Done.ensures ∙ ap (λ e. with_stored e c.args.running) (c.next-event.ensures ∙ ap next_of made.1) in
+    event_written o.who c.args.running next (Store (Append c.args.appending c.args.map)) o c.written.result c.written.new.self s t c.changes.result made.0 b.events (Append c.args.appending c.args.map)
+    (record { standing = c.standing.result; map = c.args.map }) refl made.2 is (ap commits_of (made.1 ∙ ap (λ l. made.0 ∷ l) over) ∙ append-nil (change_of made.0)) c.written.ensures
+
+pub returns-in-Err-clause-adds : goal.returns-in-Err-clause-adds
+returns-in-Err-clause-adds g c =
+    let o = c.args.self.now in
+    let after = subst (λ (z : Making). AfterStop c.in-Err.stop o c.args.running (Store (Append z c.args.map)) c.stopped.result c.stopped.new.self) c.in-Err.ensures.same c.stopped.ensures in
+    stopped_adds o.who o c.args.running (Store (Append c.args.appending c.args.map)) c.stopped.result c.stopped.new.self (g.S.Share.state c.args.share.now) (g.S.Share.state c.step.new.share)
+    c.in-Err.stop after c.in-Err.ensures.err

@@ -1,8 +1,10 @@
-use Rattle.std.proofs.Common.{sym, subst}
+use Rattle.std.proofs.Common.{sym, subst, refl}
+use Rattle.std.specs.Prelude.{Some}
 use Rattle.region_words.specs.Past.{region_after}
 use Rattle.region_words.proofs.Telling.{told_map}
 use Rattle.loader.specs.Loads.{HasLoaded, IsLoadOf, StopsLoading, Says, Load as Loading}
 use Rattle.opener.specs.State.{OpenerState}
+use Rattle.opener.specs.Calls.{AfterStop}
 use Rattle.opener.specs.Ends.{Leaves, stop_of}
 use Rattle.opener.specs.Opener.{Tied, running_as}
 use Rattle.opener.specs.declared.calls.Stop.TheVariants as why
@@ -12,6 +14,8 @@ use Rattle.opener.proofs.Loads.{done_tied, done_answer, done_call, done_cause, r
 use Rattle.opener.proofs.Same.{loaded_same}
 use Rattle.opener.proofs.Stages.{loaded_tied}
 use Rattle.opener.proofs.Stopped.{stopped_tied}
+use Rattle.opener.proofs.Added.{stopped_adds}
+use Rattle.opener.proofs.AddsBy.{load_goes, load_leaves, load_loaded, load_ready}
 use Rattle.opener.proofs.opener.Opener.load.Goals as goal
 
 pub returns-in-Ok-Going-clause-tied : goal.returns-in-Ok-Going-clause-tied
@@ -138,3 +142,49 @@ returns-in-Err-Memory-clause-call g c =
     let same = loaded_same c.args.running c.with_load-in-Err-Memory.result c.with_load-in-Err-Memory.ensures in
     stop_call o c.args.running c.with_load-in-Err-Memory.result c.args.loading c.leave-in-Err-Memory.result c.leave-in-Err-Memory.new.self s t c.requires same stops
     why.Memory c.changes-in-Err-Memory.result tt c.leave-in-Err-Memory.ensures
+
+pub returns-in-Ok-Going-clause-adds : goal.returns-in-Ok-Going-clause-adds
+returns-in-Ok-Going-clause-adds g c =
+    let o = c.args.self.now in
+    let s = g.S.Share.state c.args.share.now in
+    let t = g.S.Share.state c.step.new.share in
+    load_goes o.who c.args.running c.with_load.result (Load c.args.loading) o c.going.result c.going.new.self s t (Load c.step.new.self) c.in-Ok-Going.ensures.goes c.with_load.ensures c.going.ensures (λ so_far are. are)
+
+pub returns-in-Ok-Done-clause-adds : goal.returns-in-Ok-Done-clause-adds
+returns-in-Ok-Done-clause-adds g c =
+    let o = c.args.self.now in
+    let s = g.S.Share.state c.args.share.now in
+    let t = g.S.Share.state c.step.new.share in
+    let next = c.with_load-in-Ok-Done.result in
+    load_loaded o.who c.args.running next (Load c.args.loading) o c.loaded.result c.loaded.new.self s t c.finish.result c.changes.result c.in-Ok-Done.ensures.goes c.with_load-in-Ok-Done.ensures c.requires.at.1
+    c.loaded.ensures (λ so_far are. are)
+    (λ place i ready. load_ready o.who c.args.running next (Load c.args.loading) (record o { image = Some i }) c.loaded.result c.loaded.new.self s t place place i c.in-Ok-Done.ensures.goes
+    c.with_load-in-Ok-Done.ensures c.requires.at.1 refl ready (λ so_far are. are))
+
+pub returns-in-Err-Share-clause-adds : goal.returns-in-Err-Share-clause-adds
+returns-in-Err-Share-clause-adds g c =
+    let o = c.args.self.now in
+    let s = g.S.Share.state c.args.share.now in
+    let t = g.S.Share.state c.step.new.share in
+    let stops = subst (λ stop. StopsLoading stop s t) c.in-Err-Share.field-0-is c.in-Err-Share.ensures.err in
+    let after = subst (λ (l : Loading). AfterStop c.in-Err-Share.stop o c.args.running (Load l) c.stopped.result c.stopped.new.self) c.in-Err-Share.ensures.same c.stopped.ensures in
+    stopped_adds o.who o c.args.running (Load c.args.loading) c.stopped.result c.stopped.new.self s t c.in-Err-Share.stop after stops
+
+pub returns-in-Err-Record-clause-adds : goal.returns-in-Err-Record-clause-adds
+returns-in-Err-Record-clause-adds g c =
+    let o = c.args.self.now in
+    let s = g.S.Share.state c.args.share.now in
+    let t = g.S.Share.state c.step.new.share in
+    let stops = subst (λ stop. StopsLoading stop s t) c.in-Err-Record.field-0-is c.in-Err-Record.ensures.err in
+    let left = subst (λ w. Leaves c.with_load-in-Err-Record.result (end.Stop w) c.changes-in-Err-Record.result o c.leave.result c.leave.new.self) c.stop_of.ensures c.leave.ensures in
+    load_leaves o.who c.args.running c.with_load-in-Err-Record.result (Load c.args.loading) o c.leave.result c.leave.new.self s t (end.Stop (stop_of c.in-Err-Record.fault)) c.changes-in-Err-Record.result stops.0
+    c.with_load-in-Err-Record.ensures left (λ so_far are. are)
+
+pub returns-in-Err-Memory-clause-adds : goal.returns-in-Err-Memory-clause-adds
+returns-in-Err-Memory-clause-adds g c =
+    let o = c.args.self.now in
+    let s = g.S.Share.state c.args.share.now in
+    let t = g.S.Share.state c.step.new.share in
+    let stops = subst (λ stop. StopsLoading stop s t) c.in-Err-Memory.field-0-is c.in-Err-Memory.ensures.err in
+    load_leaves o.who c.args.running c.with_load-in-Err-Memory.result (Load c.args.loading) o c.leave-in-Err-Memory.result c.leave-in-Err-Memory.new.self s t (end.Stop why.Memory) c.changes-in-Err-Memory.result stops
+    c.with_load-in-Err-Memory.ensures c.leave-in-Err-Memory.ensures (λ so_far are. are)

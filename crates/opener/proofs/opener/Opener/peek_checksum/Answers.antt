@@ -8,6 +8,8 @@ use Rattle.opener.proofs.Same.{loaded_same}
 use Rattle.opener.proofs.Stages.{peeked_tied}
 use Rattle.opener.proofs.StopClauses.{failed_stops, stopped_makes, stopped_call, stopped_cause, stopped_answer}
 use Rattle.opener.proofs.Stopped.{stopped_tied}
+use Rattle.opener.proofs.Added.{stopped_adds}
+use Rattle.opener.proofs.AddsBy.{load_goes}
 use Rattle.opener.proofs.opener.Opener.peek_checksum.Goals as goal
 
 pub returns-in-Ok-clause-tied : goal.returns-in-Ok-clause-tied
@@ -59,3 +61,18 @@ returns-in-Err-clause-cause g c =
 
 pub returns-in-Err-clause-answer : goal.returns-in-Err-clause-answer
 returns-in-Err-clause-answer g c = stopped_answer c.in-Err.stop c.args.self.now c.args.running PeekChecksum c.stopped.result c.stopped.new.self _ c.stopped.ensures
+
+pub returns-in-Ok-clause-adds : goal.returns-in-Ok-clause-adds
+returns-in-Ok-clause-adds g c =
+    let o = c.args.self.now in
+    let s = g.S.Share.state c.args.share.now in
+    let t = g.S.Share.state c.peek_checksum.new.self in
+    load_goes o.who c.args.running c.with_load.result PeekChecksum o c.going.result c.going.new.self s t (PeekSequence c.in-Ok.peek) c.in-Ok.ensures.ok c.with_load.ensures c.going.ensures (λ so_far are. are)
+
+pub returns-in-Err-clause-adds : goal.returns-in-Err-clause-adds
+returns-in-Err-clause-adds g c =
+    let o = c.args.self.now in
+    let s = g.S.Share.state c.args.share.now in
+    let t = g.S.Share.state c.peek_checksum.new.self in
+    stopped_adds o.who o c.args.running PeekChecksum c.stopped.result c.stopped.new.self s t c.in-Err.stop c.stopped.ensures
+    (failed_stops c.in-Err.stop s t c.in-Err.ensures.err.0 c.in-Err.ensures.err.1)

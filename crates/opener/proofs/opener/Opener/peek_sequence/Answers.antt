@@ -6,6 +6,9 @@ use Rattle.opener.proofs.Ready.{ready_tied, ready_answer, ready_cause}
 use Rattle.opener.proofs.Same.{loaded_same}
 use Rattle.opener.proofs.StopClauses.{failed_stops}
 use Rattle.opener.proofs.Stopped.{stopped_tied}
+use Rattle.opener.proofs.Added.{stopped_adds}
+use Rattle.opener.proofs.AddsBy.{load_goes, load_ready}
+use Rattle.opener.proofs.Adding.{reads_nothing}
 use Rattle.opener.proofs.opener.Opener.peek_sequence.Goals as goal
 
 pub returns-then-is_current-clause-tied : goal.returns-then-is_current-clause-tied
@@ -60,4 +63,30 @@ returns-in-Err-clause-tied g c =
     let s = g.S.Share.state c.args.share.now in
     let t = g.S.Share.state c.peek_sequence.new.self in
     stopped_tied c.args.self.now c.args.running (PeekSequence c.args.peek) c.in-Err.stop c.stopped.result c.stopped.new.self s t c.requires c.stopped.ensures
+    (failed_stops c.in-Err.stop s t c.in-Err.ensures.err.0 c.in-Err.ensures.err.1)
+
+pub returns-then-is_current-clause-adds : goal.returns-then-is_current-clause-adds
+returns-then-is_current-clause-adds g c =
+    let o = c.args.self.now in
+    let s = g.S.Share.state c.args.share.now in
+    let t = g.S.Share.state c.peek_sequence.new.self in
+    let is : is_current o.image c.args.peek c.in-Ok.sequence ≡ true = sym c.if-is_current.ensures in
+    let cur = current_is o.image c.args.peek c.in-Ok.sequence is in
+    load_ready o.who c.args.running c.with_load.result (PeekSequence c.args.peek) o c.ready.result c.ready.new.self s t c.args.peek.changes c.changes.result cur.i c.in-Ok.ensures.ok c.with_load.ensures
+    c.requires.at.1 cur.kept c.ready.ensures (λ so_far are. are)
+
+pub returns-else-is_current-clause-adds : goal.returns-else-is_current-clause-adds
+returns-else-is_current-clause-adds g c =
+    let o = c.args.self.now in
+    let s = g.S.Share.state c.args.share.now in
+    let t = g.S.Share.state c.peek_sequence.new.self in
+    load_goes o.who c.args.running c.with_load-in-Ok.result (PeekSequence c.args.peek) o c.going.result c.going.new.self s t c.reading-stage.result c.in-Ok.ensures.ok c.with_load-in-Ok.ensures c.going.ensures
+    (λ so_far are. reads_nothing o.who c.with_load-in-Ok.result o.holds c.args.running.taken c.reading-stage.result so_far c.reading-stage.ensures are)
+
+pub returns-in-Err-clause-adds : goal.returns-in-Err-clause-adds
+returns-in-Err-clause-adds g c =
+    let o = c.args.self.now in
+    let s = g.S.Share.state c.args.share.now in
+    let t = g.S.Share.state c.peek_sequence.new.self in
+    stopped_adds o.who o c.args.running (PeekSequence c.args.peek) c.stopped.result c.stopped.new.self s t c.in-Err.stop c.stopped.ensures
     (failed_stops c.in-Err.stop s t c.in-Err.ensures.err.0 c.in-Err.ensures.err.1)

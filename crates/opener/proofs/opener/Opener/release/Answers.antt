@@ -7,6 +7,8 @@ use Rattle.opener.proofs.Carry.{exclusive_if, exclusive_some}
 use Rattle.opener.proofs.Leaving.{may_leave}
 use Rattle.opener.proofs.Holds.{released_tied, last_answer}
 use Rattle.opener.proofs.Stopped.{stopped_tied}
+use Rattle.opener.proofs.Added.{adds_nothing, adds_unlock, stopped_adds}
+use Rattle.opener.proofs.Adding.{done_made, done_counts, none_more, releases_none}
 use Rattle.opener.proofs.opener.Opener.release.Goals as goal
 
 pub unlock-requires-clause-lawful : goal.unlock-requires-clause-lawful
@@ -31,3 +33,27 @@ pub returns-in-Err-clause-tied : goal.returns-in-Err-clause-tied
 returns-in-Err-clause-tied g c =
     stopped_tied c.args.self.now c.args.running Release c.in-Err.stop c.stopped.result c.stopped.new.self (g.S.Share.state c.args.share.now) (g.S.Share.state c.unlock.new.self)
     c.requires c.stopped.ensures c.in-Err.ensures.err
+
+pub returns-in-Ok-clause-adds : goal.returns-in-Ok-clause-adds
+returns-in-Ok-clause-adds g c =
+    let o = c.args.self.now in
+    let s = g.S.Share.state c.args.share.now in
+    let t = g.S.Share.state c.unlock.new.self in
+    let result = c.done-in-Ok.result in
+    let new = c.done-in-Ok.new.self in
+    adds_unlock o.who c.args.running Release result new.work s t c.in-Ok.ensures.ok
+    (λ so_far are. done_made o.who c.args.running c.args.running o result new 0 c.changes-in-Ok.result so_far c.done-in-Ok.ensures (releases_none o.who c.args.running so_far c.requires.at.1 are))
+    (done_counts o.who c.args.running c.args.running o result new 0 c.changes-in-Ok.result 0 0 0 c.done-in-Ok.ensures (none_more c.args.running))
+
+pub returns-in-Err-clause-adds : goal.returns-in-Err-clause-adds
+returns-in-Err-clause-adds g c =
+    let o = c.args.self.now in
+    stopped_adds o.who o c.args.running Release c.stopped.result c.stopped.new.self (g.S.Share.state c.args.share.now) (g.S.Share.state c.unlock.new.self) c.in-Err.stop c.stopped.ensures c.in-Err.ensures.err
+
+pub returns-then-self-gt1-clause-adds : goal.returns-then-self-gt1-clause-adds
+returns-then-self-gt1-clause-adds g c =
+    let o = c.args.self.now in
+    let s = g.S.Share.state c.args.share.now in
+    adds_nothing o.who c.args.running Release c.done.result c.done.new.self.work s
+    (λ so_far are. done_made o.who c.args.running c.args.running o c.done.result c.done.new.self _ c.changes.result so_far c.done.ensures (releases_none o.who c.args.running so_far c.requires.at.1 are))
+    (done_counts o.who c.args.running c.args.running o c.done.result c.done.new.self _ c.changes.result 0 0 0 c.done.ensures (none_more c.args.running))

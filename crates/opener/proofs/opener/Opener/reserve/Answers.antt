@@ -1,10 +1,12 @@
-use Rattle.std.proofs.Common.{sym, subst, refl, ◌∙◌, inr, lit≤}
-use Rattle.region_words.specs.Share.{Goes, StopsReserving, reserving}
+use Rattle.std.proofs.Common.{◌++◌, sym, subst, refl, ◌∙◌, inr, lit≤}
+use Rattle.change_log.specs.Settled.{AreOfCall}
+use Rattle.region_words.specs.Share.{Goes, StopsReserving, reserving, unmoved}
 use Rattle.region_words.specs.declared.stops.ShareStop.TheVariants as share
 use Rattle.opener.specs.State.{OpenerState}
 use Rattle.opener.specs.Counted.{counted}
 use Rattle.opener.specs.Opener.{Tied}
 use Rattle.opener.specs.Plans.{events_in}
+use Rattle.opener.specs.Writes.{commits_in}
 use Rattle.opener.specs.declared.calls.Stop.TheVariants as why
 use Rattle.opener.specs.declared.work.End.TheVariants as end
 use Rattle.opener.specs.declared.work.Stage.TheVariants.{Reserve, Store}
@@ -14,6 +16,8 @@ use Rattle.opener.proofs.Leaves.{leaves_answer}
 use Rattle.opener.proofs.Reserved.{reserved_tied, unreserved_tied, unreserved_left, write_plain, counted_is, reserving_stops}
 use Rattle.opener.proofs.StopClauses.{same_call, reserved_makes, stopped_call, reserved_cause, stopped_answer}
 use Rattle.opener.proofs.Stopped.{stopped_tied}
+use Rattle.opener.proofs.Added.{adds_none, stopped_adds}
+use Rattle.opener.proofs.Adding.{going_made, going_counts, leaves_made, leaves_counts, none_more}
 use Rattle.opener.proofs.opener.Opener.reserve.Goals as goal
 
 pub returns-in-Ok-clause-tied : goal.returns-in-Ok-clause-tied
@@ -125,3 +129,46 @@ returns-in_default-clause-cause g c =
 
 pub returns-in_default-clause-answer : goal.returns-in_default-clause-answer
 returns-in_default-clause-answer g c = stopped_answer c.in-Err.stop c.args.self.now c.args.running (Reserve c.args.plan) c.stopped.result c.stopped.new.self _ c.stopped.ensures
+
+pub returns-in-Ok-clause-adds : goal.returns-in-Ok-clause-adds
+returns-in-Ok-clause-adds g c =
+    let o = c.args.self.now in
+    let s = g.S.Share.state c.args.share.now in
+    let t = g.S.Share.state c.reserve.new.self in
+    let running = c.args.running in
+    adds_none o.who running (Reserve c.args.plan) c.going.result c.going.new.self.work s t (reserving c.events.result c.room.result s) c.in-Ok.ensures.ok.after refl refl refl
+    (λ so_far are. going_made o.who running running o c.going.result c.going.new.self (Store c.args.plan) so_far c.going.ensures
+    (subst (λ l. AreOfCall o.who running.call running.now (l ++ commits_in c.args.plan)) (sym are) c.requires.at.2.3))
+    (going_counts o.who running running o c.going.result c.going.new.self (Store c.args.plan) 0 0 0 c.going.ensures (none_more running))
+
+pub returns-in-Memory-clause-adds : goal.returns-in-Memory-clause-adds
+returns-in-Memory-clause-adds g c =
+    let o = c.args.self.now in
+    let s = g.S.Share.state c.args.share.now in
+    let t = g.S.Share.state c.reserve.new.self in
+    let running = c.args.running in
+    let stops = subst (λ stop. StopsReserving c.events.result stop s t) c.in-Memory.is c.in-Err.ensures.err in
+    adds_none o.who running (Reserve c.args.plan) c.leave.result c.leave.new.self.work s t (unmoved s) stops.after refl refl refl
+    (λ so_far are. leaves_made o.who running running o c.leave.result c.leave.new.self (end.Stop why.Memory) c.changes.result so_far (same_call running) c.leave.ensures are)
+    (leaves_counts o.who running running o c.leave.result c.leave.new.self (end.Stop why.Memory) c.changes.result 0 0 0 c.leave.ensures (none_more running))
+
+pub returns-in-JournalFull-clause-adds : goal.returns-in-JournalFull-clause-adds
+returns-in-JournalFull-clause-adds g c =
+    let o = c.args.self.now in
+    let s = g.S.Share.state c.args.share.now in
+    let t = g.S.Share.state c.reserve.new.self in
+    let running = c.args.running in
+    let result = c.leave-in-JournalFull.result in
+    let new = c.leave-in-JournalFull.new.self in
+    let stops = subst (λ stop. StopsReserving c.events.result stop s t) c.in-JournalFull.is c.in-Err.ensures.err in
+    adds_none o.who running (Reserve c.args.plan) result new.work s t (unmoved s) stops.0.after refl refl refl
+    (λ so_far are. leaves_made o.who running running o result new (end.Stop why.JournalFull) c.changes-in-JournalFull.result so_far (same_call running) c.leave-in-JournalFull.ensures are)
+    (leaves_counts o.who running running o result new (end.Stop why.JournalFull) c.changes-in-JournalFull.result 0 0 0 c.leave-in-JournalFull.ensures (none_more running))
+
+pub returns-in_default-clause-adds : goal.returns-in_default-clause-adds
+returns-in_default-clause-adds g c =
+    let o = c.args.self.now in
+    let s = g.S.Share.state c.args.share.now in
+    let t = g.S.Share.state c.reserve.new.self in
+    stopped_adds o.who o c.args.running (Reserve c.args.plan) c.stopped.result c.stopped.new.self s t c.in-Err.stop c.stopped.ensures
+    (reserving_stops c.events.result c.in-Err.stop s t c.in_default.not-Memory c.in_default.not-JournalFull c.in-Err.ensures.err)

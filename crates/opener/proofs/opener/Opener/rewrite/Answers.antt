@@ -1,7 +1,8 @@
-use Rattle.std.proofs.Common.{sym, subst, refl, ◌∙◌}
-use Rattle.region_words.specs.Making.{Making}
+use Rattle.std.proofs.Common.{◌∷◌, sym, subst, refl, ap, ◌∙◌}
+use Rattle.region_words.specs.Making.{Making, next_of}
 use Rattle.opener.specs.State.{OpenerState}
 use Rattle.opener.specs.Calls.{AfterStop}
+use Rattle.opener.specs.Counted.{with_stored}
 use Rattle.opener.specs.Ends.{Rewritten}
 use Rattle.opener.specs.Opener.{Tied}
 use Rattle.opener.specs.declared.plan.Plan.TheVariants.{Rewrite}
@@ -13,6 +14,8 @@ use Rattle.opener.proofs.Same.{stored_same}
 use Rattle.opener.proofs.StopClauses.{stopped_makes, stopped_call, stopped_cause, stopped_answer}
 use Rattle.opener.proofs.Stopped.{stopped_tied}
 use Rattle.opener.proofs.Stored.{stored_tied}
+use Rattle.opener.proofs.Added.{stopped_adds}
+use Rattle.opener.proofs.AddsBy.{event_goes, event_rewritten, rewrite_commits}
 use Rattle.opener.proofs.opener.Opener.rewrite.Goals as goal
 
 pub step-requires-clause-some : goal.step-requires-clause-some
@@ -122,3 +125,35 @@ returns-in-Err-clause-cause g c =
 
 pub returns-in-Err-clause-answer : goal.returns-in-Err-clause-answer
 returns-in-Err-clause-answer g c = stopped_answer c.in-Err.stop c.args.self.now c.args.running (Store (Rewrite c.step.new.self c.args.then c.args.map)) c.stopped.result c.stopped.new.self _ c.stopped.ensures
+
+pub returns-in-Ok-More-clause-adds : goal.returns-in-Ok-More-clause-adds
+returns-in-Ok-More-clause-adds g c =
+    let o = c.args.self.now in
+    let s = g.S.Share.state c.args.share.now in
+    let t = g.S.Share.state c.step.new.share in
+    let b = c.step.new.self in
+    let made = c.in-Ok-More.ensures.made in
+    let next = c.with_event.result in
+    let is = c.with_event.ensures ∙ ap (λ e. with_stored e c.args.running) (c.next-event.ensures ∙ ap next_of made.1) in
+    event_goes o.who c.args.running next (Store (Rewrite c.args.rewriting c.args.then c.args.map)) o c.going.result c.going.new.self s t made.0 b.events (Rewrite c.args.rewriting c.args.then c.args.map) (Rewrite c.step.new.self c.args.then c.args.map)
+    refl made.2 is (rewrite_commits c.args.then c.args.map c.args.rewriting b made.0 made.1) c.going.ensures
+
+pub returns-in-Ok-Done-clause-adds : goal.returns-in-Ok-Done-clause-adds
+returns-in-Ok-Done-clause-adds g c =
+    let o = c.args.self.now in
+    let s = g.S.Share.state c.args.share.now in
+    let t = g.S.Share.state c.step.new.share in
+    let b = c.step.new.self in
+    let made = c.in-Ok-Done.ensures.made in
+    let next = c.with_event-running.result in
+    let over = all_made b.events (sym c.in-Ok-Done.ensures.stored ∙ c.in-Ok-Done.field-0-is) in
+    let is = c.with_event-running.ensures ∙ ap (λ e. with_stored e c.args.running) (c.next-event.ensures ∙ ap next_of made.1) in
+    event_rewritten o.who c.args.running next (Store (Rewrite c.args.rewriting c.args.then c.args.map)) o c.rewritten.result c.rewritten.new.self s t c.standing-standing.result c.args.then c.args.map
+    c.changes.result c.args.rewriting made.0 b.events refl (made.1 ∙ ap (λ l. made.0 ∷ l) over) made.2 is c.rewritten.ensures
+
+pub returns-in-Err-clause-adds : goal.returns-in-Err-clause-adds
+returns-in-Err-clause-adds g c =
+    let o = c.args.self.now in
+    let after = subst (λ (z : Making). AfterStop c.in-Err.stop o c.args.running (Store (Rewrite z c.args.then c.args.map)) c.stopped.result c.stopped.new.self) c.in-Err.ensures.same c.stopped.ensures in
+    stopped_adds o.who o c.args.running (Store (Rewrite c.args.rewriting c.args.then c.args.map)) c.stopped.result c.stopped.new.self (g.S.Share.state c.args.share.now) (g.S.Share.state c.step.new.share)
+    c.in-Err.stop after c.in-Err.ensures.err

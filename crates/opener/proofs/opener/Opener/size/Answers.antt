@@ -7,6 +7,8 @@ use Rattle.opener.specs.declared.work.Stage.TheVariants.{Size, Reserve}
 use Rattle.opener.proofs.Same.{loaded_same}
 use Rattle.opener.proofs.Sized.{size_tied, refused_tied, refused_cause}
 use Rattle.opener.proofs.Stopped.{stopped_tied}
+use Rattle.opener.proofs.Added.{stopped_adds}
+use Rattle.opener.proofs.AddsBy.{load_goes, load_leaves}
 use Rattle.opener.proofs.opener.Opener.size.Goals as goal
 
 pub returns-in-Ok-plan-clause-tied : goal.returns-in-Ok-plan-clause-tied
@@ -44,3 +46,23 @@ returns-in-Err-clause-tied g c =
     let s = g.S.Share.state c.args.share.now in
     let t = g.S.Share.state c.size.new.self in
     stopped_tied c.args.self.now c.args.running Size c.in-Err.stop c.stopped.result c.stopped.new.self s t c.requires c.stopped.ensures c.in-Err.ensures.err
+
+pub returns-in-Ok-plan-clause-adds : goal.returns-in-Ok-plan-clause-adds
+returns-in-Ok-plan-clause-adds g c =
+    let o = c.args.self.now in
+    let s = g.S.Share.state c.args.share.now in
+    let t = g.S.Share.state c.size.new.self in
+    load_goes o.who c.args.running c.with_load.result Size c.plan.new.self c.going.result c.going.new.self s t (Reserve c.in-Ok-plan.plan) c.in-Ok.ensures.ok c.with_load.ensures c.going.ensures (λ so_far are. are)
+
+pub returns-in-Err-plan-clause-adds : goal.returns-in-Err-plan-clause-adds
+returns-in-Err-plan-clause-adds g c =
+    let o = c.args.self.now in
+    let s = g.S.Share.state c.args.share.now in
+    let t = g.S.Share.state c.size.new.self in
+    load_leaves o.who c.args.running c.with_load-in-Err-plan.result Size c.plan.new.self c.leave.result c.leave.new.self s t (end.Stop c.in-Err-plan.stop) c.changes.result c.in-Ok.ensures.ok
+    c.with_load-in-Err-plan.ensures c.leave.ensures (λ so_far are. are)
+
+pub returns-in-Err-clause-adds : goal.returns-in-Err-clause-adds
+returns-in-Err-clause-adds g c =
+    let o = c.args.self.now in
+    stopped_adds o.who o c.args.running Size c.stopped.result c.stopped.new.self (g.S.Share.state c.args.share.now) (g.S.Share.state c.size.new.self) c.in-Err.stop c.stopped.ensures c.in-Err.ensures.err

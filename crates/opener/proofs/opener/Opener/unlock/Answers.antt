@@ -4,6 +4,8 @@ use Rattle.opener.proofs.Leaving.{may_leave}
 use Rattle.opener.proofs.Finished.{finishes_call}
 use Rattle.opener.proofs.Ended.{unlocked_tied, unlocked_answer, unlocked_cause, still_locked_cause, still_held}
 use Rattle.opener.proofs.Stopped.{stopped_tied}
+use Rattle.opener.proofs.Added.{adds_unlock, stopped_adds}
+use Rattle.opener.proofs.Adding.{finishes_made, finishes_counts, none_more}
 use Rattle.opener.proofs.opener.Opener.unlock.Goals as goal
 
 pub unlock-requires-clause-lawful : goal.unlock-requires-clause-lawful
@@ -39,3 +41,19 @@ pub returns-in-Err-clause-cause : goal.returns-in-Err-clause-cause
 returns-in-Err-clause-cause g c =
     still_locked_cause c.args.self.now c.args.running c.args.end c.in-Err.stop c.stopped.result c.stopped.new.self (g.S.Share.state c.args.share.now) (g.S.Share.state c.unlock.new.self)
     c.stopped.ensures c.in-Err.ensures.err
+
+pub returns-in-Ok-clause-adds : goal.returns-in-Ok-clause-adds
+returns-in-Ok-clause-adds g c =
+    let o = c.args.self.now in
+    let s = g.S.Share.state c.args.share.now in
+    let t = g.S.Share.state c.unlock.new.self in
+    let result = c.finish.result in
+    let new = c.finish.new.self in
+    adds_unlock o.who c.args.running (Unlock c.args.end) result new.work s t c.in-Ok.ensures.ok
+    (λ so_far are. finishes_made o.who c.args.running c.args.running o result new c.args.end c.changes.result so_far c.finish.ensures are)
+    (finishes_counts o.who c.args.running c.args.running o result new c.args.end c.changes.result 0 0 0 c.finish.ensures (none_more c.args.running))
+
+pub returns-in-Err-clause-adds : goal.returns-in-Err-clause-adds
+returns-in-Err-clause-adds g c =
+    let o = c.args.self.now in
+    stopped_adds o.who o c.args.running (Unlock c.args.end) c.stopped.result c.stopped.new.self (g.S.Share.state c.args.share.now) (g.S.Share.state c.unlock.new.self) c.in-Err.stop c.stopped.ensures c.in-Err.ensures.err

@@ -1,0 +1,174 @@
+-- All that a step adds, by what its call on the share did.
+use Rattle.std.proofs.Common.{◌≡◌, ℕ, Bool, List, [], ◌∷◌, ◌++◌, refl, sym, ◌∙◌, subst, ap, inl, inr, append-nil}
+use Rattle.std.specs.Prelude.{Option, Some, None}
+use Rattle.change_log.specs.Acts.{act_of}
+use Rattle.change_log.specs.Settled.{AreOfAct, AreOfCall, AreBegun}
+use Rattle.change_log.specs.declared.change.Act.{Act}
+use Rattle.change_log.specs.declared.change.Change.{Change}
+use Rattle.lock_rules.specs.declared.table.LockKind.{LockKind}
+use Rattle.region_words.specs.Past.{change_of}
+use Rattle.region_words.specs.Share.{ShareState, After, Left, Goes, Fails, Stops, StopsTrying, Grows, loaded, locked, refused, stored, unlocked_by, unmoved, failed, turned_away}
+use Rattle.region_words.specs.Told.{History, OnBoth}
+use Rattle.region_words.specs.declared.event.What.{What}
+use Rattle.region_words.specs.declared.stops.ShareStop.{ShareStop}
+use Rattle.region_words.specs.declared.stops.ShareStop.TheVariants.{Failed, Turn, Memory, JournalFull}
+use Rattle.opener.specs.State.{OpenerState}
+use Rattle.opener.specs.Adds.{Adds, AreMade, AreMadeAt, AreMadeBy, Counts, IsRaisedIn, Loads, locks_taken, stores_in}
+use Rattle.opener.specs.Calls.{AfterStop}
+use Rattle.opener.specs.Ends.{Waits}
+use Rattle.opener.specs.Writes.{commits_of, commits_in}
+use Rattle.opener.specs.declared.calls.Step.{Step}
+use Rattle.opener.specs.declared.calls.Step.TheVariants as step
+use Rattle.opener.specs.declared.calls.Stop.TheVariants as why
+use Rattle.opener.specs.declared.work.Running.{Running}
+use Rattle.opener.specs.declared.work.End.TheVariants as end
+use Rattle.opener.specs.declared.work.Stage.{Stage}
+use Rattle.opener.specs.declared.work.Stage.TheVariants as stage
+use Rattle.opener.specs.declared.work.Work.{Work}
+use Rattle.opener.specs.declared.work.Work.TheVariants.{Runs}
+use Rattle.opener.proofs.Adding.{none_more, keeps_lock, gives_lock, takes_lock}
+
+-- where nothing is made, a history grows by nothing
+grows_none : (who : ℕ) (alone : Bool) (told : Option History) → OnBoth told told (Grows who alone [])
+grows_none who alone None = tt
+grows_none who alone (Some h) = record { start = refl; others = []; by_others = tt; none = λ e. refl; past = refl }
+
+-- the changes of a call that made some so far are the first that it makes
+begun_at : (who : ℕ) (running : Running) (at : Stage) (made : List Change) → AreMadeAt who running at made → AreBegun who running.call running.now made
+begun_at who running at made are = go at are
+  where
+    first_none : (act : Option Act) → (more : List Change) × AreOfAct who running.now act more
+    first_none None = ([], refl)
+    first_none (Some act) = (record { maker = who; act = act } ∷ [], inl refl)
+
+    nothing : made ≡ [] → AreBegun who running.call running.now made
+    nothing none = subst (AreBegun who running.call running.now) (sym none) (first_none (act_of running.call running.now))
+
+    go : (at : Stage) → AreMadeAt who running at made → AreBegun who running.call running.now made
+    go (stage.Store plan) are = (commits_in plan, are)
+    go (stage.Unlock (end.Answer place reply)) are = ([], subst (AreOfCall who running.call running.now) (sym (append-nil made)) are)
+    go (stage.Unlock (end.Stop stop)) none = nothing none
+    go stage.PeekChecksum none = nothing none
+    go (stage.PeekSequence peek) none = nothing none
+    go stage.LockShared none = nothing none
+    go stage.LockExclusive none = nothing none
+    go (stage.Load loading) none = nothing none
+    go stage.Size none = nothing none
+    go (stage.Reserve plan) none = nothing none
+    go stage.Hold none = nothing none
+    go stage.Release none = nothing none
+
+module _ (who : ℕ) (running : Running) (at : Stage) (result : Step) (new : Work) (s t : ShareState) where
+  -- what this step makes of what was made before, where its events commit nothing
+  abbrev pub KeepsMade : Type 0
+  KeepsMade = (so_far : List Change) → AreMadeAt who running at so_far → AreMadeBy who running result new so_far
+
+  all_of : (left : Left) (loads stores locks : ℕ) → After left s t → Loads loads s t → locks_taken s.holds t.holds ≡ locks → stores_in left.own ≡ stores →
+      ((so_far : List Change) → AreMadeAt who running at so_far → AreMadeBy who running result new (so_far ++ commits_of left.own)) →
+      Counts running loads stores locks result new → Adds who running at result new s t
+  all_of left loads stores locks after loaded took stored made counts =
+      record {
+        own = left.own;
+        loads = loads;
+        grows = after.told;
+        loaded = loaded;
+        made = made;
+        counts = subst (λ n. Counts running loads n (locks_taken s.holds t.holds) result new) (sym stored) (subst (λ n. Counts running loads stores n result new) (sym took) counts);
+      }
+
+  as_before : KeepsMade → (own : List What) → commits_of own ≡ [] → (so_far : List Change) → AreMadeAt who running at so_far → AreMadeBy who running result new (so_far ++ commits_of own)
+  as_before keeps own none so_far are =
+      subst (AreMadeBy who running result new) (sym (ap (λ l. so_far ++ l) none ∙ append-nil so_far)) (keeps so_far are)
+
+  pub adds_load : Goes (loaded s) s t → KeepsMade → Counts running 1 0 0 result new → Adds who running at result new s t
+  adds_load goes keeps counts =
+      all_of (loaded s) 1 0 0 goes.after (inr (refl, ap (λ c. c.loads) goes.after.counts)) (keeps_lock s.holds t.holds goes.after.holds) refl (as_before keeps [] refl) counts
+
+  -- a call on the share that made neither an event nor a load
+  pub adds_none : (left : Left) → After left s t → left.own ≡ [] → left.counts.loads ≡ s.counts.loads → left.holds ≡ s.holds → KeepsMade → Counts running 0 0 0 result new →
+      Adds who running at result new s t
+  adds_none left after none loads holds keeps counts =
+      all_of left 0 0 0 after (inl (refl, ap (λ c. c.loads) after.counts ∙ loads)) (keeps_lock s.holds t.holds (after.holds ∙ holds)) (ap stores_in none)
+      (as_before keeps left.own (ap commits_of none)) counts
+
+  pub adds_lock : (kind : LockKind) → Goes (locked kind s) s t → s.holds ≡ None → KeepsMade → Counts running 0 0 1 result new → Adds who running at result new s t
+  adds_lock kind goes free keeps counts =
+      all_of (locked kind s) 0 0 1 goes.after (inl (refl, ap (λ c. c.loads) goes.after.counts)) (takes_lock kind s.holds t.holds free goes.after.holds) refl
+      (as_before keeps (locked kind s).own refl) counts
+
+  pub adds_unlock : Goes (unlocked_by s) s t → KeepsMade → Counts running 0 0 0 result new → Adds who running at result new s t
+  adds_unlock goes keeps counts =
+      all_of (unlocked_by s) 0 0 0 goes.after (inl (refl, ap (λ c. c.loads) goes.after.counts)) (gives_lock s.holds t.holds goes.after.holds) refl
+      (as_before keeps (unlocked_by s).own refl) counts
+
+  -- an event of a row
+  pub adds_event : (first : What) → After (stored first s) s t →
+      ((so_far : List Change) → AreMadeAt who running at so_far → AreMadeBy who running result new (so_far ++ change_of first)) →
+      Counts running 0 (stores_in (first ∷ [])) 0 result new → Adds who running at result new s t
+  adds_event first after made counts =
+      all_of (stored first s) 0 (stores_in (first ∷ [])) 0 after (inl (refl, ap (λ c. c.loads) after.counts)) (keeps_lock s.holds t.holds after.holds) refl
+      (λ so_far are. subst (λ l. AreMadeBy who running result new (so_far ++ l)) (sym (append-nil (change_of first))) (made so_far are)) counts
+
+-- without a call on the share nothing is added
+pub adds_nothing : (who : ℕ) (running : Running) (at : Stage) (result : Step) (new : Work) (s : ShareState) → KeepsMade who running at result new s s → Counts running 0 0 0 result new →
+    Adds who running at result new s s
+adds_nothing who running at result new s keeps counts =
+    record {
+      own = [];
+      loads = 0;
+      grows = grows_none s.who s.alone s.told;
+      loaded = inl (refl, refl);
+      made = λ so_far are. subst (AreMadeBy who running result new) (sym (append-nil so_far)) (keeps so_far are);
+      counts = subst (λ n. Counts running 0 0 n result new) (sym (keeps_lock s.holds s.holds refl)) counts;
+    }
+
+-- What a step adds whose call on the share was not answered.
+module _ (who : ℕ) (o : OpenerState) (running : Running) (at : Stage) (result : Step) (new : OpenerState) (s t : ShareState) where
+  again_made : (result ≡ step.Again) × (new ≡ record o { work = Runs running at }) → KeepsMade who running at result new.work s t
+  again_made is so_far are =
+      subst (λ r. AreMadeBy who running r new.work so_far) (sym is.0) (subst (λ (n : OpenerState). AreMadeBy who running step.Again n.work so_far) (sym is.1) are)
+
+  again_counts : (result ≡ step.Again) × (new ≡ record o { work = Runs running at }) → Counts running 0 0 0 result new.work
+  again_counts is =
+      subst (λ r. Counts running 0 0 0 r new.work) (sym is.0) (subst (λ (n : OpenerState). Counts running 0 0 0 step.Again n.work) (sym is.1) (none_more running))
+
+  failed_made : result ≡ step.Stopped why.Fault → KeepsMade who running at result new.work s t
+  failed_made is so_far are = subst (λ r. AreMadeBy who running r new.work so_far) (sym is) (begun_at who running at so_far are)
+
+  failed_counts : result ≡ step.Stopped why.Fault → Counts running 0 0 0 result new.work
+  failed_counts is = subst (λ r. Counts running 0 0 0 r new.work) (sym is) tt
+
+  died_adds : Fails s t → result ≡ step.Stopped why.Fault → Adds who running at result new.work s t
+  died_adds fails is =
+      record {
+        own = (failed s).own;
+        loads = 0;
+        grows = fails.after.told;
+        loaded = inl (refl, ap (λ c. c.loads) fails.after.counts);
+        made = λ so_far are. subst (AreMadeBy who running result new.work) (sym (append-nil so_far)) (failed_made is so_far are);
+        counts = subst (λ n. Counts running 0 0 n result new.work) (sym (gives_lock s.holds t.holds fails.after.holds)) (failed_counts is);
+      }
+
+  pub stopped_adds : (stop : ShareStop) → AfterStop stop o running at result new → Stops stop s t → Adds who running at result new.work s t
+  stopped_adds Turn after stops = adds_none who running at result new.work s t (turned_away s) stops.after refl refl refl (again_made after) (again_counts after)
+  stopped_adds Failed after stops = died_adds stops after.0
+  stopped_adds Memory after stops = absurd stops
+  stopped_adds JournalFull after stops = absurd stops
+
+  -- a try of a call that has made nothing yet
+  pub tried_adds : (kind : LockKind) (stop : ShareStop) → ((so_far : List Change) → AreMadeAt who running at so_far → so_far ≡ []) → AfterStop stop o running at result new →
+      StopsTrying kind stop s t → Adds who running at result new.work s t
+  tried_adds kind Turn nothing after stops = adds_none who running at result new.work s t (turned_away s) stops.after refl refl refl (again_made after) (again_counts after)
+  tried_adds kind Failed nothing after stops = died_adds stops after.0
+  tried_adds kind Memory nothing after stops =
+      adds_none who running at result new.work s t (unmoved s) stops.0.after refl refl refl
+      (λ so_far are. subst (λ r. AreMadeBy who running r new.work so_far) (sym after.0) (nothing so_far are)) (subst (λ r. Counts running 0 0 0 r new.work) (sym after.0) tt)
+  tried_adds kind JournalFull nothing after stops =
+      adds_none who running at result new.work s t (unmoved s) stops.0.after refl refl refl
+      (λ so_far are. subst (λ r. AreMadeBy who running r new.work so_far) (sym after.0) (nothing so_far are)) (subst (λ r. Counts running 0 0 0 r new.work) (sym after.0) tt)
+
+  pub waits_adds : (holder : ℕ) → Waits running at holder o result new → Goes (refused s) s t → Adds who running at result new.work s t
+  waits_adds holder waits goes =
+      adds_none who running at result new.work s t (refused s) goes.after refl refl refl
+      (λ so_far are. subst (λ r. AreMadeBy who running r new.work so_far) (sym waits.0) (subst (λ (n : OpenerState). AreMade who n.work so_far) (sym waits.1) are))
+      (subst (λ r. Counts running 0 0 0 r new.work) (sym waits.0) (subst (λ (n : OpenerState). IsRaisedIn running 0 0 0 n.work) (sym waits.1) (none_more running)))
