@@ -2,6 +2,7 @@ pub mod Begun
 pub mod Carry
 pub mod EndClauses
 pub mod Ended
+pub mod Falling
 pub mod Finished
 pub mod Followed
 pub mod Holds
@@ -11,6 +12,7 @@ pub mod Leaving
 pub mod Loads
 pub mod Locked
 pub mod Noticed
+pub mod PlanEvents
 pub mod Planned
 pub mod Planning
 pub mod Ready

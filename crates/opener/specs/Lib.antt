@@ -6,4 +6,5 @@ pub mod Plans
 pub mod Ends
 pub mod Begins
 pub mod Writes
+pub mod Bound
 pub mod Opener

@@ -1,9 +1,10 @@
 // An opener: what it keeps between its calls, and its steps.
-ghost use Rattle.std.specs.Prelude.{◌≡◌, ◌≤◌, None, Some, IfOk, IfErr, OnErr, OnOk};
+ghost use Rattle.std.specs.Prelude.{◌≡◌, ℕ, ◌+◌, ◌*◌, ◌≤◌, None, Some, IfOk, IfErr, OnErr, OnOk};
 ghost use Rattle.region_words.specs.Told.{OnTold, changes_told as changes_seen};
 ghost use Rattle.opener.specs.Calls.{IsBuilt};
 ghost use Rattle.opener.specs.Begins.{Begins, HasBytes, IsFirst, begun_at, refusal};
 ghost use Rattle.opener.specs.Opener.{Tied, running_as, HasCause, IsAnswer, KeepsCall, KeepsWork, OnAnswer, MakesOne};
+ghost use Rattle.opener.specs.Bound.{Falls, steps_left};
 
 use crate::calls::{NotBegun, Refused, Step};
 use crate::plan::Plan;
@@ -69,6 +70,7 @@ impl Opener {
         ensures first { OnOk result (refusal self.old call ≡ None) }
         ensures refused { IfErr result (λ n. (refusal self.old call ≡ Some n.why) × (n.call ≡ call)) }
         ensures same { OnErr result (self.new ≡ self.old) }
+        ensures bound { OnOk result ((words : ℕ) → steps_left words self.new.work ≤ 6 * words + 100) }
     {
         if let Some(why) = self.refusal(&call) {
             return Err(NotBegun { why, call });
@@ -115,6 +117,7 @@ impl Opener {
         ensures call { KeepsWork self.old result self.new }
         ensures cause { HasCause self.old.work result self.new.work (S.state share.old) (S.state share.new) }
         ensures answer { OnAnswer result (λ a. OnTold (S.state share.new).told (λ h. IsAnswer a h.start h.past)) }
+        ensures falls { Falls self.old.work result self.new.work (S.state share.new) }
     {
         match mem::replace(&mut self.work, Work::Idle) {
             Work::Idle => Step::Idle,
@@ -133,6 +136,7 @@ impl Opener {
         ensures call { KeepsCall self.old.who self.old.holds running result self.new }
         ensures cause { HasCause (Work.Runs running stage) result self.new.work (S.state share.old) (S.state share.new) }
         ensures answer { OnAnswer result (λ a. OnTold (S.state share.new).told (λ h. IsAnswer a h.start h.past)) }
+        ensures falls { Falls (Work.Runs running stage) result self.new.work (S.state share.new) }
     {
         match stage {
             Stage::PeekChecksum => self.peek_checksum(share, running),

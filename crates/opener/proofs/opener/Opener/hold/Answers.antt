@@ -10,6 +10,7 @@ use Rattle.opener.proofs.Same.{locked_same}
 use Rattle.opener.proofs.Stages.{busy_tied}
 use Rattle.opener.proofs.Holds.{held_tied, first_answer}
 use Rattle.opener.proofs.Stopped.{tried_tied}
+use Rattle.opener.proofs.Falling.{blocked_falls, done_falls, stopped_falls}
 use Rattle.opener.proofs.opener.Opener.hold.Goals as goal
 
 pub returns-in-Ok-Taken-clause-tied : goal.returns-in-Ok-Taken-clause-tied
@@ -46,3 +47,16 @@ returns-in-Err-clause-tied g c =
     let s = g.S.Share.state c.args.share.now in
     let t = g.S.Share.state c.try_lock.new.self in
     tried_tied c.args.self.now c.args.running Hold Exclusive c.in-Err.stop c.stopped.result c.stopped.new.self s t c.requires refl c.requires.at.2.1 c.stopped.ensures c.in-Err.ensures.err
+
+pub returns-in-Ok-Taken-clause-falls : goal.returns-in-Ok-Taken-clause-falls
+returns-in-Ok-Taken-clause-falls g c =
+    done_falls c.args.running c.with_lock.result Hold 1 c.changes-in-Ok-Taken.result c.args.self.now c.done-in-Ok-Taken.result c.done-in-Ok-Taken.new.self (g.S.Share.state c.try_lock.new.self)
+    c.done-in-Ok-Taken.ensures
+
+pub returns-in-Ok-Busy-clause-falls : goal.returns-in-Ok-Busy-clause-falls
+returns-in-Ok-Busy-clause-falls g c =
+    blocked_falls c.args.running Hold c.in-Ok-Busy.holder c.args.self.now c.blocked.result c.blocked.new.self (g.S.Share.state c.try_lock.new.self) c.blocked.ensures
+
+pub returns-in-Err-clause-falls : goal.returns-in-Err-clause-falls
+returns-in-Err-clause-falls g c =
+    stopped_falls c.in-Err.stop c.args.self.now c.args.running Hold c.stopped.result c.stopped.new.self (g.S.Share.state c.try_lock.new.self) c.stopped.ensures

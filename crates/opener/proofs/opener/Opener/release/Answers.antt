@@ -7,6 +7,7 @@ use Rattle.opener.proofs.Carry.{exclusive_if, exclusive_some}
 use Rattle.opener.proofs.Leaving.{may_leave}
 use Rattle.opener.proofs.Holds.{released_tied, last_answer}
 use Rattle.opener.proofs.Stopped.{stopped_tied}
+use Rattle.opener.proofs.Falling.{done_falls, stopped_falls}
 use Rattle.opener.proofs.opener.Opener.release.Goals as goal
 
 pub unlock-requires-clause-lawful : goal.unlock-requires-clause-lawful
@@ -31,3 +32,11 @@ pub returns-in-Err-clause-tied : goal.returns-in-Err-clause-tied
 returns-in-Err-clause-tied g c =
     stopped_tied c.args.self.now c.args.running Release c.in-Err.stop c.stopped.result c.stopped.new.self (g.S.Share.state c.args.share.now) (g.S.Share.state c.unlock.new.self)
     c.requires c.stopped.ensures c.in-Err.ensures.err
+
+pub returns-in-Ok-clause-falls : goal.returns-in-Ok-clause-falls
+returns-in-Ok-clause-falls g c =
+    done_falls c.args.running c.args.running Release 0 c.changes-in-Ok.result c.args.self.now c.done-in-Ok.result c.done-in-Ok.new.self (g.S.Share.state c.unlock.new.self) c.done-in-Ok.ensures
+
+pub returns-in-Err-clause-falls : goal.returns-in-Err-clause-falls
+returns-in-Err-clause-falls g c =
+    stopped_falls c.in-Err.stop c.args.self.now c.args.running Release c.stopped.result c.stopped.new.self (g.S.Share.state c.unlock.new.self) c.stopped.ensures

@@ -14,6 +14,7 @@ use Rattle.opener.proofs.Leaves.{leaves_answer}
 use Rattle.opener.proofs.Reserved.{reserved_tied, unreserved_tied, unreserved_left, write_plain, counted_is, reserving_stops}
 use Rattle.opener.proofs.StopClauses.{same_call, reserved_makes, stopped_call, reserved_cause, stopped_answer}
 use Rattle.opener.proofs.Stopped.{stopped_tied}
+use Rattle.opener.proofs.Falling.{going_falls, leaves_falls, reserved_shorter, stopped_falls, unreserved_shorter}
 use Rattle.opener.proofs.opener.Opener.reserve.Goals as goal
 
 pub returns-in-Ok-clause-tied : goal.returns-in-Ok-clause-tied
@@ -125,3 +126,25 @@ returns-in_default-clause-cause g c =
 
 pub returns-in_default-clause-answer : goal.returns-in_default-clause-answer
 returns-in_default-clause-answer g c = stopped_answer c.in-Err.stop c.args.self.now c.args.running (Reserve c.args.plan) c.stopped.result c.stopped.new.self _ c.stopped.ensures
+
+pub returns-in-Ok-clause-falls : goal.returns-in-Ok-clause-falls
+returns-in-Ok-clause-falls g c =
+    let t = g.S.Share.state c.reserve.new.self in
+    going_falls (Runs c.args.running (Reserve c.args.plan)) c.args.running (Store c.args.plan) c.args.self.now c.going.result c.going.new.self t
+    (reserved_shorter c.args.running c.args.running t c.args.plan) c.going.ensures
+
+pub returns-in-Memory-clause-falls : goal.returns-in-Memory-clause-falls
+returns-in-Memory-clause-falls g c =
+    let t = g.S.Share.state c.reserve.new.self in
+    leaves_falls c.args.running c.args.running (Reserve c.args.plan) (end.Stop why.Memory) c.changes.result c.args.self.now c.leave.result c.leave.new.self t
+    (unreserved_shorter c.args.running c.args.running t c.args.plan (end.Stop why.Memory)) c.leave.ensures
+
+pub returns-in-JournalFull-clause-falls : goal.returns-in-JournalFull-clause-falls
+returns-in-JournalFull-clause-falls g c =
+    let t = g.S.Share.state c.reserve.new.self in
+    leaves_falls c.args.running c.args.running (Reserve c.args.plan) (end.Stop why.JournalFull) c.changes-in-JournalFull.result c.args.self.now c.leave-in-JournalFull.result c.leave-in-JournalFull.new.self t
+    (unreserved_shorter c.args.running c.args.running t c.args.plan (end.Stop why.JournalFull)) c.leave-in-JournalFull.ensures
+
+pub returns-in_default-clause-falls : goal.returns-in_default-clause-falls
+returns-in_default-clause-falls g c =
+    stopped_falls c.in-Err.stop c.args.self.now c.args.running (Reserve c.args.plan) c.stopped.result c.stopped.new.self (g.S.Share.state c.reserve.new.self) c.stopped.ensures

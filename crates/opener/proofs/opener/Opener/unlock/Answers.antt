@@ -4,6 +4,7 @@ use Rattle.opener.proofs.Leaving.{may_leave}
 use Rattle.opener.proofs.Finished.{finishes_call}
 use Rattle.opener.proofs.Ended.{unlocked_tied, unlocked_answer, unlocked_cause, still_locked_cause, still_held}
 use Rattle.opener.proofs.Stopped.{stopped_tied}
+use Rattle.opener.proofs.Falling.{finishes_falls, stopped_falls}
 use Rattle.opener.proofs.opener.Opener.unlock.Goals as goal
 
 pub unlock-requires-clause-lawful : goal.unlock-requires-clause-lawful
@@ -39,3 +40,11 @@ pub returns-in-Err-clause-cause : goal.returns-in-Err-clause-cause
 returns-in-Err-clause-cause g c =
     still_locked_cause c.args.self.now c.args.running c.args.end c.in-Err.stop c.stopped.result c.stopped.new.self (g.S.Share.state c.args.share.now) (g.S.Share.state c.unlock.new.self)
     c.stopped.ensures c.in-Err.ensures.err
+
+pub returns-in-Ok-clause-falls : goal.returns-in-Ok-clause-falls
+returns-in-Ok-clause-falls g c =
+    finishes_falls c.args.running c.args.running (Unlock c.args.end) c.args.end c.changes.result c.args.self.now c.finish.result c.finish.new.self (g.S.Share.state c.unlock.new.self) c.finish.ensures
+
+pub returns-in-Err-clause-falls : goal.returns-in-Err-clause-falls
+returns-in-Err-clause-falls g c =
+    stopped_falls c.in-Err.stop c.args.self.now c.args.running (Unlock c.args.end) c.stopped.result c.stopped.new.self (g.S.Share.state c.unlock.new.self) c.stopped.ensures
