@@ -5,6 +5,7 @@ pub mod Begun
 pub mod Carry
 pub mod EndClauses
 pub mod Ended
+pub mod Falling
 pub mod Finished
 pub mod Followed
 pub mod Holds
@@ -14,6 +15,7 @@ pub mod Leaving
 pub mod Loads
 pub mod Locked
 pub mod Noticed
+pub mod PlanEvents
 pub mod Planned
 pub mod Planning
 pub mod Ready

@@ -7,4 +7,5 @@ pub mod Ends
 pub mod Begins
 pub mod Writes
 pub mod Adds
+pub mod Bound
 pub mod Opener

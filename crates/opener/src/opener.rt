@@ -1,16 +1,17 @@
 // An opener: what it keeps between its calls, and its steps.
-ghost use Rattle.std.specs.Prelude.{◌≡◌, ◌≤◌, None, Some, IfOk, IfErr, OnErr, OnOk};
+ghost use Rattle.std.specs.Prelude.{◌≡◌, ℕ, ◌+◌, ◌*◌, ◌≤◌, None, Some, IfOk, IfErr, OnErr, OnOk};
 ghost use Rattle.region_words.specs.Told.{OnTold, changes_told as changes_seen};
 ghost use Rattle.opener.specs.Calls.{IsBuilt};
 ghost use Rattle.opener.specs.Begins.{Begins, HasBytes, IsFirst, begun_at, refusal};
 ghost use Rattle.opener.specs.Adds.{Adds, AddsTo};
-ghost use Rattle.opener.specs.Opener.{Tied, running_as, HasCause, IsAnswer, KeepsCall, KeepsWork, OnAnswer, MakesOne};
+ghost use Rattle.opener.specs.Opener.{Tied, running_as, HasCause, IsAnswer, KeepsCall, KeepsWork, OnAnswer, MakesOne, stop_found};
+ghost use Rattle.opener.specs.Bound.{Falls, steps_left};
 
-use crate::calls::{NotBegun, Refused, Step};
+use crate::calls::{NotBegun, Refused, Step, Stop};
 use crate::plan::Plan;
 use crate::reads::is_write;
 use crate::refusals::refusal;
-use crate::work::{Running, Stage, Work};
+use crate::work::{End, Running, Stage, Work};
 use change_log::Call;
 use handlers::Handler;
 use loader::Image;
@@ -70,6 +71,7 @@ impl Opener {
         ensures first { OnOk result (refusal self.old call ≡ None) }
         ensures refused { IfErr result (λ n. (refusal self.old call ≡ Some n.why) × (n.call ≡ call)) }
         ensures same { OnErr result (self.new ≡ self.old) }
+        ensures bound { OnOk result ((words : ℕ) → steps_left words self.new.work ≤ 6 * words + 100) }
     {
         if let Some(why) = self.refusal(&call) {
             return Err(NotBegun { why, call });
@@ -117,6 +119,7 @@ impl Opener {
         ensures call { KeepsWork self.old result self.new }
         ensures cause { HasCause self.old.work result self.new.work (S.state share.old) (S.state share.new) }
         ensures answer { OnAnswer result (λ a. OnTold (S.state share.new).told (λ h. IsAnswer a h.start h.past)) }
+        ensures falls { Falls self.old.work result self.new.work (S.state share.new) }
     {
         match mem::replace(&mut self.work, Work::Idle) {
             Work::Idle => Step::Idle,
@@ -128,6 +131,19 @@ impl Opener {
         }
     }
 
+    /// The stop with which the running call ends once its lock is given up, where it has found one.
+    pub fn stop_found(&self) -> Option<Stop>
+        ensures { result ≡ stop_found self.now.work }
+    {
+        match &self.work {
+            Work::Runs {
+                stage: Stage::Unlock(End::Stop(stop)),
+                ..
+            } => Some(*stop),
+            _ => None,
+        }
+    }
+
     fn go<S: Share>(&mut self, share: &mut S, running: Running, stage: Stage) -> Step
         requires { Tied (running_as self.old running stage) (S.state share.old) }
         ensures tied { Tied self.new (S.state share.new) }
@@ -136,6 +152,7 @@ impl Opener {
         ensures call { KeepsCall self.old.who self.old.holds running result self.new }
         ensures cause { HasCause (Work.Runs running stage) result self.new.work (S.state share.old) (S.state share.new) }
         ensures answer { OnAnswer result (λ a. OnTold (S.state share.new).told (λ h. IsAnswer a h.start h.past)) }
+        ensures falls { Falls (Work.Runs running stage) result self.new.work (S.state share.new) }
     {
         match stage {
             Stage::PeekChecksum => self.peek_checksum(share, running),

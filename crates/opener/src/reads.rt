@@ -6,6 +6,7 @@ ghost use Rattle.opener.specs.Ends.{Replies, answer_of, stop_of};
 ghost use Rattle.opener.specs.declared.work.Work.TheVariants.{Runs};
 ghost use Rattle.opener.specs.Adds.{Adds};
 ghost use Rattle.opener.specs.Opener.{Tied, running_as, HasCause, IsAnswer, KeepsCall, OnAnswer, MakesOne};
+ghost use Rattle.opener.specs.Bound.{Falls};
 
 use crate::calls::{Step, Stop};
 use crate::opener::Opener;
@@ -27,6 +28,7 @@ impl Opener {
         ensures call { KeepsCall self.old.who self.old.holds running result self.new }
         ensures cause { HasCause (Runs running Stage.PeekChecksum) result self.new.work (S.state share.old) (S.state share.new) }
         ensures answer { OnAnswer result (λ a. OnTold (S.state share.new).told (λ h. IsAnswer a h.start h.past)) }
+        ensures falls { Falls (Runs running Stage.PeekChecksum) result self.new.work (S.state share.new) }
     {
         match share.peek_checksum() {
             Ok(peek) => self.going(running.with_load(), Stage::PeekSequence(peek)),
@@ -47,6 +49,7 @@ impl Opener {
         ensures call { KeepsCall self.old.who self.old.holds running result self.new }
         ensures cause { HasCause (Runs running (Stage.PeekSequence peek)) result self.new.work (S.state share.old) (S.state share.new) }
         ensures answer { OnAnswer result (λ a. OnTold (S.state share.new).told (λ h. IsAnswer a h.start h.past)) }
+        ensures falls { Falls (Runs running (Stage.PeekSequence peek)) result self.new.work (S.state share.new) }
     {
         match share.peek_sequence() {
             Ok(sequence) => {
@@ -68,6 +71,7 @@ impl Opener {
         ensures call { KeepsCall self.old.who self.old.holds running result self.new }
         ensures cause { HasCause (Runs running Stage.LockShared) result self.new.work (S.state share.old) (S.state share.new) }
         ensures answer { OnAnswer result (λ a. OnTold (S.state share.new).told (λ h. IsAnswer a h.start h.past)) }
+        ensures falls { Falls (Runs running Stage.LockShared) result self.new.work (S.state share.new) }
     {
         match share.try_lock(LockKind::Shared) {
             Ok(Tried::Taken) => {
@@ -92,6 +96,7 @@ impl Opener {
         ensures call { KeepsCall self.old.who self.old.holds running result self.new }
         ensures cause { HasCause (Runs running (Stage.Load loading)) result self.new.work (S.state share.old) (S.state share.new) }
         ensures answer { OnAnswer result (λ a. OnTold (S.state share.new).told (λ h. IsAnswer a h.start h.past)) }
+        ensures falls { Falls (Runs running (Stage.Load loading)) result self.new.work (S.state share.new) }
     {
         let mut loading = loading;
         match loading.step(share) {
@@ -119,6 +124,7 @@ impl Opener {
         ensures call { KeepsCall self.old.who self.old.holds running result self.new }
         ensures cause { HasCause (Runs running (Stage.Unlock end)) result self.new.work (S.state share.old) (S.state share.new) }
         ensures answer { OnAnswer result (λ a. OnTold (S.state share.new).told (λ h. IsAnswer a h.start h.past)) }
+        ensures falls { Falls (Runs running (Stage.Unlock end)) result self.new.work (S.state share.new) }
     {
         match share.unlock() {
             Ok(()) => self.finish(running, end, share.changes()),
@@ -134,6 +140,7 @@ impl Opener {
         ensures call { KeepsCall self.old.who self.old.holds running result self.new }
         ensures cause { HasCause (Runs running Stage.Hold) result self.new.work (S.state share.old) (S.state share.new) }
         ensures answer { OnAnswer result (λ a. OnTold (S.state share.new).told (λ h. IsAnswer a h.start h.past)) }
+        ensures falls { Falls (Runs running Stage.Hold) result self.new.work (S.state share.new) }
     {
         if self.holds > 0 {
             let holds = self.holds + 1;
@@ -158,6 +165,7 @@ impl Opener {
         ensures call { KeepsCall self.old.who self.old.holds running result self.new }
         ensures cause { HasCause (Runs running Stage.Release) result self.new.work (S.state share.old) (S.state share.new) }
         ensures answer { OnAnswer result (λ a. OnTold (S.state share.new).told (λ h. IsAnswer a h.start h.past)) }
+        ensures falls { Falls (Runs running Stage.Release) result self.new.work (S.state share.new) }
     {
         if self.holds > 1 {
             let holds = self.holds - 1;

@@ -2,6 +2,7 @@
 ghost use Rattle.region_words.specs.Told.{OnTold};
 ghost use Rattle.opener.specs.Adds.{Adds};
 ghost use Rattle.opener.specs.Opener.{Tied, running_as, HasCause, IsAnswer, KeepsCall, OnAnswer, MakesOne};
+ghost use Rattle.opener.specs.Bound.{Falls};
 ghost use Rattle.opener.specs.declared.work.Work.TheVariants.{Runs};
 
 use crate::calls::{Step, Stop};
@@ -25,6 +26,7 @@ impl Opener {
         ensures call { KeepsCall self.old.who self.old.holds running result self.new }
         ensures cause { HasCause (Runs running Stage.LockExclusive) result self.new.work (S.state share.old) (S.state share.new) }
         ensures answer { OnAnswer result (λ a. OnTold (S.state share.new).told (λ h. IsAnswer a h.start h.past)) }
+        ensures falls { Falls (Runs running Stage.LockExclusive) result self.new.work (S.state share.new) }
     {
         match share.try_lock(LockKind::Exclusive) {
             Ok(Tried::Taken) => {
@@ -46,6 +48,7 @@ impl Opener {
         ensures call { KeepsCall self.old.who self.old.holds running result self.new }
         ensures cause { HasCause (Runs running Stage.Size) result self.new.work (S.state share.old) (S.state share.new) }
         ensures answer { OnAnswer result (λ a. OnTold (S.state share.new).told (λ h. IsAnswer a h.start h.past)) }
+        ensures falls { Falls (Runs running Stage.Size) result self.new.work (S.state share.new) }
     {
         match share.size() {
             Ok(size) => match self.plan(&running, size) {
@@ -64,6 +67,7 @@ impl Opener {
         ensures call { KeepsCall self.old.who self.old.holds running result self.new }
         ensures cause { HasCause (Runs running (Stage.Reserve plan)) result self.new.work (S.state share.old) (S.state share.new) }
         ensures answer { OnAnswer result (λ a. OnTold (S.state share.new).told (λ h. IsAnswer a h.start h.past)) }
+        ensures falls { Falls (Runs running (Stage.Reserve plan)) result self.new.work (S.state share.new) }
     {
         match share.reserve(plan.events(), plan.room()) {
             Ok(()) => self.going(running, Stage::Store(plan)),
@@ -92,6 +96,7 @@ impl Opener {
         ensures call { KeepsCall self.old.who self.old.holds running result self.new }
         ensures cause { HasCause (Runs running (Stage.Store (Plan.Rewrite rewriting then map))) result self.new.work (S.state share.old) (S.state share.new) }
         ensures answer { OnAnswer result (λ a. OnTold (S.state share.new).told (λ h. IsAnswer a h.start h.past)) }
+        ensures falls { Falls (Runs running (Stage.Store (Plan.Rewrite rewriting then map))) result self.new.work (S.state share.new) }
     {
         let mut rewriting = rewriting;
         let event = rewriting.next();
@@ -134,6 +139,7 @@ impl Opener {
         ensures call { KeepsCall self.old.who self.old.holds running result self.new }
         ensures cause { HasCause (Runs running (Stage.Store (Plan.Append appending map))) result self.new.work (S.state share.old) (S.state share.new) }
         ensures answer { OnAnswer result (λ a. OnTold (S.state share.new).told (λ h. IsAnswer a h.start h.past)) }
+        ensures falls { Falls (Runs running (Stage.Store (Plan.Append appending map))) result self.new.work (S.state share.new) }
     {
         let mut appending = appending;
         let event = appending.next();

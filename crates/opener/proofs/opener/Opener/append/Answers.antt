@@ -20,6 +20,7 @@ use Rattle.opener.proofs.Stored.{stored_tied}
 use Rattle.opener.proofs.Written.{written_tied, written_answer}
 use Rattle.opener.proofs.Added.{stopped_adds}
 use Rattle.opener.proofs.AddsBy.{event_goes, event_written}
+use Rattle.opener.proofs.Falling.{appending_falls, stopped_falls, written_falls}
 use Rattle.opener.proofs.opener.Opener.append.Goals as goal
 
 pub step-requires-clause-some : goal.step-requires-clause-some
@@ -153,3 +154,19 @@ returns-in-Err-clause-adds g c =
     let after = subst (λ (z : Making). AfterStop c.in-Err.stop o c.args.running (Store (Append z c.args.map)) c.stopped.result c.stopped.new.self) c.in-Err.ensures.same c.stopped.ensures in
     stopped_adds o.who o c.args.running (Store (Append c.args.appending c.args.map)) c.stopped.result c.stopped.new.self (g.S.Share.state c.args.share.now) (g.S.Share.state c.step.new.share)
     c.in-Err.stop after c.in-Err.ensures.err
+
+pub returns-in-Ok-More-clause-falls : goal.returns-in-Ok-More-clause-falls
+returns-in-Ok-More-clause-falls g c =
+    appending_falls c.args.running c.with_event.result c.args.appending c.step.new.self c.args.map (g.S.Share.state c.args.share.now) (g.S.Share.state c.step.new.share) c.args.self.now c.going.result
+    c.going.new.self c.in-Ok-More.ensures.made c.going.ensures
+
+pub returns-in-Ok-Done-clause-falls : goal.returns-in-Ok-Done-clause-falls
+returns-in-Ok-Done-clause-falls g c =
+    written_falls c.args.running c.with_event-in-Ok-Done.result (Append c.args.appending c.args.map) c.step.new.self.events (g.S.Share.state c.args.share.now) (g.S.Share.state c.step.new.share)
+    c.in-Ok-Done.ensures.made (record { standing = c.standing.result; map = c.args.map }) c.changes.result c.args.self.now c.written.result c.written.new.self c.written.ensures
+
+pub returns-in-Err-clause-falls : goal.returns-in-Err-clause-falls
+returns-in-Err-clause-falls g c =
+    let o = c.args.self.now in
+    let after = subst (λ (z : Making). AfterStop c.in-Err.stop o c.args.running (Store (Append z c.args.map)) c.stopped.result c.stopped.new.self) c.in-Err.ensures.same c.stopped.ensures in
+    stopped_falls c.in-Err.stop o c.args.running (Store (Append c.args.appending c.args.map)) c.stopped.result c.stopped.new.self (g.S.Share.state c.step.new.share) after

@@ -1,7 +1,10 @@
-use Rattle.std.proofs.Common.{sym, ap, ◌∙◌}
+use Rattle.std.proofs.Common.{ℕ, ◌+◌, ◌*◌, ◌≤◌, sym, subst, ap, ◌∙◌}
+use Rattle.opener.specs.Bound.{steps_left}
 use Rattle.opener.specs.Opener.{running_as}
+use Rattle.opener.specs.State.{OpenerState}
 use Rattle.opener.specs.declared.work.Running.{Running}
 use Rattle.opener.proofs.Begun.{begun_tied}
+use Rattle.opener.proofs.Falling.{first_bound}
 use Rattle.opener.proofs.opener.Opener.begin.Goals as goal
 
 pub returns-clause-tied : goal.returns-clause-tied
@@ -9,3 +12,9 @@ returns-clause-tied g c =
     let o = c.args.self.now in
     begun_tied o c.run.new.self c.args.call c.args.now c.changes-begun.result (g.S.Share.state c.args.share.now) c.requires.tied c.requires.built (c.refusal.ensures.bytes c.in_default.is) (sym c.refusal.ensures.why ∙ c.in_default.is)
     c.changes-begun.ensures c.first_stage-stage.result c.first_stage-stage.ensures (c.run.ensures ∙ ap (λ (r : Running). running_as o r c.first_stage-stage.result) c.begun_at.ensures)
+
+pub returns-clause-bound : goal.returns-clause-bound
+returns-clause-bound g c =
+    let o = c.args.self.now in
+    subst (λ (n : OpenerState). (words : ℕ) → steps_left words n.work ≤ 6 * words + 100) (sym c.run.ensures)
+    (first_bound o.image o.holds c.args.call c.first_stage-stage.result c.first_stage-stage.ensures)

@@ -13,6 +13,7 @@ use Rattle.opener.proofs.Stopped.{tried_tied}
 use Rattle.opener.proofs.Added.{adds_nothing, tried_adds, waits_adds}
 use Rattle.opener.proofs.AddsBy.{lock_done}
 use Rattle.opener.proofs.Adding.{done_made, done_counts, none_more, holds_none}
+use Rattle.opener.proofs.Falling.{blocked_falls, done_falls, stopped_falls}
 use Rattle.opener.proofs.opener.Opener.hold.Goals as goal
 
 pub returns-in-Ok-Taken-clause-tied : goal.returns-in-Ok-Taken-clause-tied
@@ -81,3 +82,16 @@ returns-in-Err-clause-adds g c =
     let o = c.args.self.now in
     tried_adds o.who o c.args.running Hold c.stopped.result c.stopped.new.self (g.S.Share.state c.args.share.now) (g.S.Share.state c.try_lock.new.self) Exclusive c.in-Err.stop (λ so_far are. are)
     c.stopped.ensures c.in-Err.ensures.err
+
+pub returns-in-Ok-Taken-clause-falls : goal.returns-in-Ok-Taken-clause-falls
+returns-in-Ok-Taken-clause-falls g c =
+    done_falls c.args.running c.with_lock.result Hold 1 c.changes-in-Ok-Taken.result c.args.self.now c.done-in-Ok-Taken.result c.done-in-Ok-Taken.new.self (g.S.Share.state c.try_lock.new.self)
+    c.done-in-Ok-Taken.ensures
+
+pub returns-in-Ok-Busy-clause-falls : goal.returns-in-Ok-Busy-clause-falls
+returns-in-Ok-Busy-clause-falls g c =
+    blocked_falls c.args.running Hold c.in-Ok-Busy.holder c.args.self.now c.blocked.result c.blocked.new.self (g.S.Share.state c.try_lock.new.self) c.blocked.ensures
+
+pub returns-in-Err-clause-falls : goal.returns-in-Err-clause-falls
+returns-in-Err-clause-falls g c =
+    stopped_falls c.in-Err.stop c.args.self.now c.args.running Hold c.stopped.result c.stopped.new.self (g.S.Share.state c.try_lock.new.self) c.stopped.ensures

@@ -16,6 +16,8 @@ use Rattle.opener.proofs.Stages.{loaded_tied}
 use Rattle.opener.proofs.Stopped.{stopped_tied}
 use Rattle.opener.proofs.Added.{stopped_adds}
 use Rattle.opener.proofs.AddsBy.{load_goes, load_leaves, load_loaded, load_ready}
+use Rattle.opener.specs.declared.work.Work.TheVariants.{Runs}
+use Rattle.opener.proofs.Falling.{going_falls, leaves_falls, load_left, load_shorter, loaded_falls, stopped_falls}
 use Rattle.opener.proofs.opener.Opener.load.Goals as goal
 
 pub returns-in-Ok-Going-clause-tied : goal.returns-in-Ok-Going-clause-tied
@@ -188,3 +190,37 @@ returns-in-Err-Memory-clause-adds g c =
     let stops = subst (λ stop. StopsLoading stop s t) c.in-Err-Memory.field-0-is c.in-Err-Memory.ensures.err in
     load_leaves o.who c.args.running c.with_load-in-Err-Memory.result (Load c.args.loading) o c.leave-in-Err-Memory.result c.leave-in-Err-Memory.new.self s t (end.Stop why.Memory) c.changes-in-Err-Memory.result stops
     c.with_load-in-Err-Memory.ensures c.leave-in-Err-Memory.ensures (λ so_far are. are)
+
+pub returns-in-Ok-Going-clause-falls : goal.returns-in-Ok-Going-clause-falls
+returns-in-Ok-Going-clause-falls g c =
+    let t = g.S.Share.state c.step.new.share in
+    let did = c.in-Ok-Going.ensures in
+    going_falls (Runs c.args.running (Load c.args.loading)) c.with_load.result (Load c.step.new.self) c.args.self.now c.going.result c.going.new.self t
+    (load_shorter c.args.running c.with_load.result c.args.loading t c.step.new.self did.loads did.bound did.answered) c.going.ensures
+
+pub returns-in-Ok-Done-clause-falls : goal.returns-in-Ok-Done-clause-falls
+returns-in-Ok-Done-clause-falls g c =
+    loaded_falls c.args.running c.with_load-in-Ok-Done.result c.args.loading (g.S.Share.state c.step.new.share) c.finish.result c.changes.result c.args.self.now c.loaded.result c.loaded.new.self
+    c.loaded.ensures
+
+pub returns-in-Err-Share-clause-falls : goal.returns-in-Err-Share-clause-falls
+returns-in-Err-Share-clause-falls g c =
+    let o = c.args.self.now in
+    let stop = c.in-Err-Share.stop in
+    stopped_falls stop o c.args.running (Load c.args.loading) c.stopped.result c.stopped.new.self (g.S.Share.state c.step.new.share)
+    (subst (λ (l : Loading). AfterStop stop o c.args.running (Load l) c.stopped.result c.stopped.new.self) c.in-Err-Share.ensures.same c.stopped.ensures)
+
+pub returns-in-Err-Record-clause-falls : goal.returns-in-Err-Record-clause-falls
+returns-in-Err-Record-clause-falls g c =
+    let t = g.S.Share.state c.step.new.share in
+    let next = c.with_load-in-Err-Record.result in
+    let how = end.Stop c.stop_of.result in
+    leaves_falls c.args.running next (Load c.args.loading) how c.changes-in-Err-Record.result c.args.self.now c.leave.result c.leave.new.self t
+    (load_left c.args.running next c.args.loading t how) c.leave.ensures
+
+pub returns-in-Err-Memory-clause-falls : goal.returns-in-Err-Memory-clause-falls
+returns-in-Err-Memory-clause-falls g c =
+    let t = g.S.Share.state c.step.new.share in
+    let next = c.with_load-in-Err-Memory.result in
+    leaves_falls c.args.running next (Load c.args.loading) (end.Stop why.Memory) c.changes-in-Err-Memory.result c.args.self.now c.leave-in-Err-Memory.result c.leave-in-Err-Memory.new.self t
+    (load_left c.args.running next c.args.loading t (end.Stop why.Memory)) c.leave-in-Err-Memory.ensures

@@ -12,6 +12,8 @@ use Rattle.opener.proofs.Stopped.{tried_tied}
 use Rattle.opener.proofs.Added.{tried_adds, waits_adds}
 use Rattle.opener.proofs.AddsBy.{lock_goes}
 use Rattle.opener.proofs.Adding.{notices_nothing}
+use Rattle.opener.specs.declared.work.Work.TheVariants.{Runs}
+use Rattle.opener.proofs.Falling.{blocked_falls, exclusive_shorter, going_falls, stopped_falls}
 use Rattle.opener.proofs.opener.Opener.lock_exclusive.Goals as goal
 
 pub returns-in-Ok-Taken-clause-tied : goal.returns-in-Ok-Taken-clause-tied
@@ -58,3 +60,19 @@ returns-in-Err-clause-adds g c =
     let o = c.args.self.now in
     tried_adds o.who o c.args.running LockExclusive c.stopped.result c.stopped.new.self (g.S.Share.state c.args.share.now) (g.S.Share.state c.try_lock.new.self) Exclusive c.in-Err.stop (λ so_far are. are)
     c.stopped.ensures c.in-Err.ensures.err
+
+pub returns-in-Ok-Taken-clause-falls : goal.returns-in-Ok-Taken-clause-falls
+returns-in-Ok-Taken-clause-falls g c =
+    let o = c.args.self.now in
+    let t = g.S.Share.state c.try_lock.new.self in
+    let next = c.with_lock-running.result in
+    going_falls (Runs c.args.running LockExclusive) next c.noticing-stage.result o c.going.result c.going.new.self t
+    (exclusive_shorter c.args.running next t o.image o.holds next.taken c.noticing-stage.result c.noticing-stage.ensures) c.going.ensures
+
+pub returns-in-Ok-Busy-clause-falls : goal.returns-in-Ok-Busy-clause-falls
+returns-in-Ok-Busy-clause-falls g c =
+    blocked_falls c.args.running LockExclusive c.in-Ok-Busy.holder c.args.self.now c.blocked.result c.blocked.new.self (g.S.Share.state c.try_lock.new.self) c.blocked.ensures
+
+pub returns-in-Err-clause-falls : goal.returns-in-Err-clause-falls
+returns-in-Err-clause-falls g c =
+    stopped_falls c.in-Err.stop c.args.self.now c.args.running LockExclusive c.stopped.result c.stopped.new.self (g.S.Share.state c.try_lock.new.self) c.stopped.ensures

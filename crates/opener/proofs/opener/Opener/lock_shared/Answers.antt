@@ -10,6 +10,8 @@ use Rattle.opener.proofs.Stages.{locked_tied, busy_tied}
 use Rattle.opener.proofs.Stopped.{tried_tied}
 use Rattle.opener.proofs.Added.{tried_adds, waits_adds}
 use Rattle.opener.proofs.AddsBy.{lock_goes}
+use Rattle.opener.specs.declared.work.Work.TheVariants.{Runs}
+use Rattle.opener.proofs.Falling.{blocked_falls, going_falls, locked_shorter, stopped_falls}
 use Rattle.opener.proofs.opener.Opener.lock_shared.Goals as goal
 
 pub returns-in-Ok-Taken-clause-tied : goal.returns-in-Ok-Taken-clause-tied
@@ -57,3 +59,17 @@ returns-in-Err-clause-adds g c =
     let o = c.args.self.now in
     tried_adds o.who o c.args.running LockShared c.stopped.result c.stopped.new.self (g.S.Share.state c.args.share.now) (g.S.Share.state c.try_lock.new.self) Shared c.in-Err.stop (λ so_far are. are)
     c.stopped.ensures c.in-Err.ensures.err
+
+pub returns-in-Ok-Taken-clause-falls : goal.returns-in-Ok-Taken-clause-falls
+returns-in-Ok-Taken-clause-falls g c =
+    let t = g.S.Share.state c.try_lock.new.self in
+    going_falls (Runs c.args.running LockShared) c.with_lock.result (Load c.full-loading.result) c.args.self.now c.going.result c.going.new.self t
+    (locked_shorter c.args.running c.with_lock.result t c.full-loading.result) c.going.ensures
+
+pub returns-in-Ok-Busy-clause-falls : goal.returns-in-Ok-Busy-clause-falls
+returns-in-Ok-Busy-clause-falls g c =
+    blocked_falls c.args.running LockShared c.in-Ok-Busy.holder c.args.self.now c.blocked.result c.blocked.new.self (g.S.Share.state c.try_lock.new.self) c.blocked.ensures
+
+pub returns-in-Err-clause-falls : goal.returns-in-Err-clause-falls
+returns-in-Err-clause-falls g c =
+    stopped_falls c.in-Err.stop c.args.self.now c.args.running LockShared c.stopped.result c.stopped.new.self (g.S.Share.state c.try_lock.new.self) c.stopped.ensures

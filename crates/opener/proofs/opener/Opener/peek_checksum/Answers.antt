@@ -10,6 +10,7 @@ use Rattle.opener.proofs.StopClauses.{failed_stops, stopped_makes, stopped_call,
 use Rattle.opener.proofs.Stopped.{stopped_tied}
 use Rattle.opener.proofs.Added.{stopped_adds}
 use Rattle.opener.proofs.AddsBy.{load_goes}
+use Rattle.opener.proofs.Falling.{checksum_shorter, going_falls, stopped_falls}
 use Rattle.opener.proofs.opener.Opener.peek_checksum.Goals as goal
 
 pub returns-in-Ok-clause-tied : goal.returns-in-Ok-clause-tied
@@ -76,3 +77,13 @@ returns-in-Err-clause-adds g c =
     let t = g.S.Share.state c.peek_checksum.new.self in
     stopped_adds o.who o c.args.running PeekChecksum c.stopped.result c.stopped.new.self s t c.in-Err.stop c.stopped.ensures
     (failed_stops c.in-Err.stop s t c.in-Err.ensures.err.0 c.in-Err.ensures.err.1)
+
+pub returns-in-Ok-clause-falls : goal.returns-in-Ok-clause-falls
+returns-in-Ok-clause-falls g c =
+    let t = g.S.Share.state c.peek_checksum.new.self in
+    going_falls (Runs c.args.running PeekChecksum) c.with_load.result (PeekSequence c.in-Ok.peek) c.args.self.now c.going.result c.going.new.self t
+    (checksum_shorter c.args.running c.with_load.result t c.in-Ok.peek) c.going.ensures
+
+pub returns-in-Err-clause-falls : goal.returns-in-Err-clause-falls
+returns-in-Err-clause-falls g c =
+    stopped_falls c.in-Err.stop c.args.self.now c.args.running PeekChecksum c.stopped.result c.stopped.new.self (g.S.Share.state c.peek_checksum.new.self) c.stopped.ensures

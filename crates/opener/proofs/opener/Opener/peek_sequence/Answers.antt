@@ -9,6 +9,8 @@ use Rattle.opener.proofs.Stopped.{stopped_tied}
 use Rattle.opener.proofs.Added.{stopped_adds}
 use Rattle.opener.proofs.AddsBy.{load_goes, load_ready}
 use Rattle.opener.proofs.Adding.{reads_nothing}
+use Rattle.opener.specs.declared.work.Work.TheVariants.{Runs}
+use Rattle.opener.proofs.Falling.{current_falls, going_falls, reading_shorter, stopped_falls}
 use Rattle.opener.proofs.opener.Opener.peek_sequence.Goals as goal
 
 pub returns-then-is_current-clause-tied : goal.returns-then-is_current-clause-tied
@@ -90,3 +92,19 @@ returns-in-Err-clause-adds g c =
     let t = g.S.Share.state c.peek_sequence.new.self in
     stopped_adds o.who o c.args.running (PeekSequence c.args.peek) c.stopped.result c.stopped.new.self s t c.in-Err.stop c.stopped.ensures
     (failed_stops c.in-Err.stop s t c.in-Err.ensures.err.0 c.in-Err.ensures.err.1)
+
+pub returns-then-is_current-clause-falls : goal.returns-then-is_current-clause-falls
+returns-then-is_current-clause-falls g c =
+    current_falls c.args.running c.with_load.result (g.S.Share.state c.peek_sequence.new.self) c.args.peek c.args.peek.changes c.changes.result c.args.self.now c.ready.result c.ready.new.self c.ready.ensures
+
+pub returns-else-is_current-clause-falls : goal.returns-else-is_current-clause-falls
+returns-else-is_current-clause-falls g c =
+    let o = c.args.self.now in
+    let t = g.S.Share.state c.peek_sequence.new.self in
+    let next = c.with_load-in-Ok.result in
+    going_falls (Runs c.args.running (PeekSequence c.args.peek)) next c.reading-stage.result o c.going.result c.going.new.self t
+    (reading_shorter c.args.running next t c.args.peek o.holds c.args.running.taken c.reading-stage.result c.reading-stage.ensures) c.going.ensures
+
+pub returns-in-Err-clause-falls : goal.returns-in-Err-clause-falls
+returns-in-Err-clause-falls g c =
+    stopped_falls c.in-Err.stop c.args.self.now c.args.running (PeekSequence c.args.peek) c.stopped.result c.stopped.new.self (g.S.Share.state c.peek_sequence.new.self) c.stopped.ensures

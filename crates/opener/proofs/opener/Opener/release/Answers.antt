@@ -9,6 +9,7 @@ use Rattle.opener.proofs.Holds.{released_tied, last_answer}
 use Rattle.opener.proofs.Stopped.{stopped_tied}
 use Rattle.opener.proofs.Added.{adds_nothing, adds_unlock, stopped_adds}
 use Rattle.opener.proofs.Adding.{done_made, done_counts, none_more, releases_none}
+use Rattle.opener.proofs.Falling.{done_falls, stopped_falls}
 use Rattle.opener.proofs.opener.Opener.release.Goals as goal
 
 pub unlock-requires-clause-lawful : goal.unlock-requires-clause-lawful
@@ -57,3 +58,11 @@ returns-then-self-gt1-clause-adds g c =
     adds_nothing o.who c.args.running Release c.done.result c.done.new.self.work s
     (λ so_far are. done_made o.who c.args.running c.args.running o c.done.result c.done.new.self _ c.changes.result so_far c.done.ensures (releases_none o.who c.args.running so_far c.requires.at.1 are))
     (done_counts o.who c.args.running c.args.running o c.done.result c.done.new.self _ c.changes.result 0 0 0 c.done.ensures (none_more c.args.running))
+
+pub returns-in-Ok-clause-falls : goal.returns-in-Ok-clause-falls
+returns-in-Ok-clause-falls g c =
+    done_falls c.args.running c.args.running Release 0 c.changes-in-Ok.result c.args.self.now c.done-in-Ok.result c.done-in-Ok.new.self (g.S.Share.state c.unlock.new.self) c.done-in-Ok.ensures
+
+pub returns-in-Err-clause-falls : goal.returns-in-Err-clause-falls
+returns-in-Err-clause-falls g c =
+    stopped_falls c.in-Err.stop c.args.self.now c.args.running Release c.stopped.result c.stopped.new.self (g.S.Share.state c.unlock.new.self) c.stopped.ensures

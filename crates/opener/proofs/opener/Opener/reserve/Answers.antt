@@ -18,6 +18,7 @@ use Rattle.opener.proofs.StopClauses.{same_call, reserved_makes, stopped_call, r
 use Rattle.opener.proofs.Stopped.{stopped_tied}
 use Rattle.opener.proofs.Added.{adds_none, stopped_adds}
 use Rattle.opener.proofs.Adding.{going_made, going_counts, leaves_made, leaves_counts, none_more}
+use Rattle.opener.proofs.Falling.{going_falls, leaves_falls, reserved_shorter, stopped_falls, unreserved_shorter}
 use Rattle.opener.proofs.opener.Opener.reserve.Goals as goal
 
 pub returns-in-Ok-clause-tied : goal.returns-in-Ok-clause-tied
@@ -172,3 +173,25 @@ returns-in_default-clause-adds g c =
     let t = g.S.Share.state c.reserve.new.self in
     stopped_adds o.who o c.args.running (Reserve c.args.plan) c.stopped.result c.stopped.new.self s t c.in-Err.stop c.stopped.ensures
     (reserving_stops c.events.result c.in-Err.stop s t c.in_default.not-Memory c.in_default.not-JournalFull c.in-Err.ensures.err)
+
+pub returns-in-Ok-clause-falls : goal.returns-in-Ok-clause-falls
+returns-in-Ok-clause-falls g c =
+    let t = g.S.Share.state c.reserve.new.self in
+    going_falls (Runs c.args.running (Reserve c.args.plan)) c.args.running (Store c.args.plan) c.args.self.now c.going.result c.going.new.self t
+    (reserved_shorter c.args.running c.args.running t c.args.plan) c.going.ensures
+
+pub returns-in-Memory-clause-falls : goal.returns-in-Memory-clause-falls
+returns-in-Memory-clause-falls g c =
+    let t = g.S.Share.state c.reserve.new.self in
+    leaves_falls c.args.running c.args.running (Reserve c.args.plan) (end.Stop why.Memory) c.changes.result c.args.self.now c.leave.result c.leave.new.self t
+    (unreserved_shorter c.args.running c.args.running t c.args.plan (end.Stop why.Memory)) c.leave.ensures
+
+pub returns-in-JournalFull-clause-falls : goal.returns-in-JournalFull-clause-falls
+returns-in-JournalFull-clause-falls g c =
+    let t = g.S.Share.state c.reserve.new.self in
+    leaves_falls c.args.running c.args.running (Reserve c.args.plan) (end.Stop why.JournalFull) c.changes-in-JournalFull.result c.args.self.now c.leave-in-JournalFull.result c.leave-in-JournalFull.new.self t
+    (unreserved_shorter c.args.running c.args.running t c.args.plan (end.Stop why.JournalFull)) c.leave-in-JournalFull.ensures
+
+pub returns-in_default-clause-falls : goal.returns-in_default-clause-falls
+returns-in_default-clause-falls g c =
+    stopped_falls c.in-Err.stop c.args.self.now c.args.running (Reserve c.args.plan) c.stopped.result c.stopped.new.self (g.S.Share.state c.reserve.new.self) c.stopped.ensures

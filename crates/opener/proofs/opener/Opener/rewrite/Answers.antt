@@ -16,6 +16,7 @@ use Rattle.opener.proofs.Stopped.{stopped_tied}
 use Rattle.opener.proofs.Stored.{stored_tied}
 use Rattle.opener.proofs.Added.{stopped_adds}
 use Rattle.opener.proofs.AddsBy.{event_goes, event_rewritten, rewrite_commits}
+use Rattle.opener.proofs.Falling.{rewriting_falls, rewritten_falls, stopped_falls}
 use Rattle.opener.proofs.opener.Opener.rewrite.Goals as goal
 
 pub step-requires-clause-some : goal.step-requires-clause-some
@@ -157,3 +158,19 @@ returns-in-Err-clause-adds g c =
     let after = subst (λ (z : Making). AfterStop c.in-Err.stop o c.args.running (Store (Rewrite z c.args.then c.args.map)) c.stopped.result c.stopped.new.self) c.in-Err.ensures.same c.stopped.ensures in
     stopped_adds o.who o c.args.running (Store (Rewrite c.args.rewriting c.args.then c.args.map)) c.stopped.result c.stopped.new.self (g.S.Share.state c.args.share.now) (g.S.Share.state c.step.new.share)
     c.in-Err.stop after c.in-Err.ensures.err
+
+pub returns-in-Ok-More-clause-falls : goal.returns-in-Ok-More-clause-falls
+returns-in-Ok-More-clause-falls g c =
+    rewriting_falls c.args.running c.with_event.result c.args.rewriting c.step.new.self c.args.then c.args.map (g.S.Share.state c.args.share.now) (g.S.Share.state c.step.new.share) c.args.self.now c.going.result
+    c.going.new.self c.in-Ok-More.ensures.made c.going.ensures
+
+pub returns-in-Ok-Done-clause-falls : goal.returns-in-Ok-Done-clause-falls
+returns-in-Ok-Done-clause-falls g c =
+    rewritten_falls c.args.running c.with_event-running.result c.args.rewriting c.step.new.self c.args.then c.args.map c.standing-standing.result c.changes.result (g.S.Share.state c.args.share.now)
+    (g.S.Share.state c.step.new.share) c.args.self.now c.rewritten.result c.rewritten.new.self c.in-Ok-Done.ensures.made c.rewritten.ensures
+
+pub returns-in-Err-clause-falls : goal.returns-in-Err-clause-falls
+returns-in-Err-clause-falls g c =
+    let o = c.args.self.now in
+    let after = subst (λ (z : Making). AfterStop c.in-Err.stop o c.args.running (Store (Rewrite z c.args.then c.args.map)) c.stopped.result c.stopped.new.self) c.in-Err.ensures.same c.stopped.ensures in
+    stopped_falls c.in-Err.stop o c.args.running (Store (Rewrite c.args.rewriting c.args.then c.args.map)) c.stopped.result c.stopped.new.self (g.S.Share.state c.step.new.share) after

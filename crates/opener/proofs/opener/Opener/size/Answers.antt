@@ -9,6 +9,8 @@ use Rattle.opener.proofs.Sized.{size_tied, refused_tied, refused_cause}
 use Rattle.opener.proofs.Stopped.{stopped_tied}
 use Rattle.opener.proofs.Added.{stopped_adds}
 use Rattle.opener.proofs.AddsBy.{load_goes, load_leaves}
+use Rattle.opener.specs.declared.work.Work.TheVariants.{Runs}
+use Rattle.opener.proofs.Falling.{going_falls, leaves_falls, refused_shorter, size_shorter, stopped_falls}
 use Rattle.opener.proofs.opener.Opener.size.Goals as goal
 
 pub returns-in-Ok-plan-clause-tied : goal.returns-in-Ok-plan-clause-tied
@@ -66,3 +68,24 @@ pub returns-in-Err-clause-adds : goal.returns-in-Err-clause-adds
 returns-in-Err-clause-adds g c =
     let o = c.args.self.now in
     stopped_adds o.who o c.args.running Size c.stopped.result c.stopped.new.self (g.S.Share.state c.args.share.now) (g.S.Share.state c.size.new.self) c.in-Err.stop c.stopped.ensures c.in-Err.ensures.err
+
+pub returns-in-Ok-plan-clause-falls : goal.returns-in-Ok-plan-clause-falls
+returns-in-Ok-plan-clause-falls g c =
+    let o = c.args.self.now in
+    let s = g.S.Share.state c.args.share.now in
+    let t = g.S.Share.state c.size.new.self in
+    let plan = c.in-Ok-plan.plan in
+    let found = c.in-Ok.ensures in
+    going_falls (Runs c.args.running Size) c.with_load.result (Reserve plan) c.plan.new.self c.going.result c.going.new.self t
+    (size_shorter c.args.running c.with_load.result t o c.in-Ok.size s plan c.requires found.ok found.value found.pages c.in-Ok-plan.ensures.ok) c.going.ensures
+
+pub returns-in-Err-plan-clause-falls : goal.returns-in-Err-plan-clause-falls
+returns-in-Err-plan-clause-falls g c =
+    let t = g.S.Share.state c.size.new.self in
+    let next = c.with_load-in-Err-plan.result in
+    let how = end.Stop c.in-Err-plan.stop in
+    leaves_falls c.args.running next Size how c.changes.result c.plan.new.self c.leave.result c.leave.new.self t (refused_shorter c.args.running next t how) c.leave.ensures
+
+pub returns-in-Err-clause-falls : goal.returns-in-Err-clause-falls
+returns-in-Err-clause-falls g c =
+    stopped_falls c.in-Err.stop c.args.self.now c.args.running Size c.stopped.result c.stopped.new.self (g.S.Share.state c.size.new.self) c.stopped.ensures

@@ -6,6 +6,7 @@ use Rattle.opener.proofs.Ended.{unlocked_tied, unlocked_answer, unlocked_cause, 
 use Rattle.opener.proofs.Stopped.{stopped_tied}
 use Rattle.opener.proofs.Added.{adds_unlock, stopped_adds}
 use Rattle.opener.proofs.Adding.{finishes_made, finishes_counts, none_more}
+use Rattle.opener.proofs.Falling.{finishes_falls, stopped_falls}
 use Rattle.opener.proofs.opener.Opener.unlock.Goals as goal
 
 pub unlock-requires-clause-lawful : goal.unlock-requires-clause-lawful
@@ -57,3 +58,11 @@ pub returns-in-Err-clause-adds : goal.returns-in-Err-clause-adds
 returns-in-Err-clause-adds g c =
     let o = c.args.self.now in
     stopped_adds o.who o c.args.running (Unlock c.args.end) c.stopped.result c.stopped.new.self (g.S.Share.state c.args.share.now) (g.S.Share.state c.unlock.new.self) c.in-Err.stop c.stopped.ensures c.in-Err.ensures.err
+
+pub returns-in-Ok-clause-falls : goal.returns-in-Ok-clause-falls
+returns-in-Ok-clause-falls g c =
+    finishes_falls c.args.running c.args.running (Unlock c.args.end) c.args.end c.changes.result c.args.self.now c.finish.result c.finish.new.self (g.S.Share.state c.unlock.new.self) c.finish.ensures
+
+pub returns-in-Err-clause-falls : goal.returns-in-Err-clause-falls
+returns-in-Err-clause-falls g c =
+    stopped_falls c.in-Err.stop c.args.self.now c.args.running (Unlock c.args.end) c.stopped.result c.stopped.new.self (g.S.Share.state c.unlock.new.self) c.stopped.ensures
