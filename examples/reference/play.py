@@ -596,14 +596,15 @@ class Opener:
 
 
 def reply_of(call: Call, pairs: Pairs, now: int) -> str:
-    live = sorted(key for key, held in pairs.items() if held.live_at(now))
     if call.name == 'get':
-        return f'value {hex_text(pairs[call.key].value)}' if call.key in live else 'none'
-    if call.name == 'keys':
-        return ' '.join([f'keys {len(live)}'] + [hex_text(key) for key in live])
+        held = pairs.get(call.key)
+        return f'value {hex_text(held.value)}' if held and held.live_at(now) else 'none'
+    if call.name == 'sync':
+        return 'done'
+    live = sorted(key for key, held in pairs.items() if held.live_at(now))
     if call.name == 'count':
         return f'count {len(live)}'
-    return 'done'
+    return ' '.join([f'keys {len(live)}'] + [hex_text(key) for key in live])
 
 
 # ------------------------------------------------------------------------------------------------------------------------------------
