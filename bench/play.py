@@ -1,5 +1,5 @@
 #!/usr/bin/env python3
-"""Times `play` beside a plain C program on scripts of 10,000, 100,000 and 400,000 puts and gets by one opener, in one run.
+"""Times `play` beside a plain C program on scripts of 25,000, 100,000 and 400,000 puts and gets by one opener, in one run.
 
 By hand, after `rt ci`:  python3 bench/play.py
 Both programs read the same two files and the same script and must print the same text. Every other call is a put of a small value, on a store
@@ -59,7 +59,7 @@ def main():
         store(folder, 's', had)
         path = os.path.join(folder, 'script')
         at_rest = before = None
-        for count in [0, 10_000, 100_000, 400_000]:
+        for count in [0, 25_000, 100_000, 400_000]:
             with open(path, 'w') as text:
                 text.write(script(count))
             ours, text = best(measure, [program, folder, 'play', 's'], path)
