@@ -73,8 +73,8 @@ answers_one start more past r answers a h begun is =
         in_order = all_pairs_push (λ (x : Answer) (y : Answer). x.who ≡ y.who → x.ended ≤ y.begun) answers a old.in_order (λ k d lt same. omega (arith, h.earlier k d lt, begun));
         made = All-push (IsMade (base start) (changes_of (more ++ past))) answers a old.made is.made;
         placed = λ ok apart. All-push (IsPlaced (base start) (changes_of (more ++ past))) answers a (old.placed ok apart)
-            (record { begun = is.begun; ended = is.placed; within = is.within; reply = is.reply ok apart });
+            (record { begun = is.begun; ended = is.placed; within = omega (arith, is.ended); reply = is.reply ok apart });
       };
-      within = All-push (λ x. x.ended ≤ length (changes_of (more ++ past))) answers a (within_later more past answers h.within) is.within;
+      within = All-push (λ x. x.ended ≤ length (changes_of (more ++ past))) answers a (within_later more past answers h.within) (omega (arith, is.ended));
       earlier = tt;
     }

@@ -169,6 +169,13 @@ halted stock parts l halt.Memory free can = tt
 halted stock parts l halt.JournalFull free can = (l, refl, can)
 halted stock parts l halt.NotWhole free can = (l, refl, can)
 
+-- a line of steps that ends the play
+pub steps_halted : (stock left : Stock) (start : Region) (parts : List Part) (p : PlayerState) (o : OpenerState) (who count : ℕ) (why : Halt) →
+    who ≡ 1 → p.seat.who ≡ 1 → p.opener ≡ Some o → IsNoRefusal why → IsAt stock left start parts p → HasHalted stock parts (Some (StepLine who count)) why
+steps_halted stock left start parts p o who count why one seat is free at =
+    subst (λ w. HasHalted stock parts (Some (StepLine w count)) why) (sym one)
+    (halted stock parts (StepLine 1 count) why free (lives_one start parts o p.seat seat at.past (opened_in stock left start parts p o is at), tt))
+
 -- what comes of a line of steps
 pub takes_steps : {A : Type 0} (stock left : Stock) (start : Region) (parts : List Part) (p mid q : PlayerState) (o o' : OpenerState) (s : Seated) (who count : ℕ) (last : Step) (result : Result A Halt) →
     who ≡ 1 → p.seat.who ≡ 1 → s ≡ p.seat → p.opener ≡ Some o → mid.opener ≡ Some o' → mid.outcomes ≡ p.outcomes → Tied o' (seat_state mid.seat) →
@@ -184,8 +191,7 @@ takes_steps stock left start parts p mid q o o' s who count last (Ok x) one seat
     (steps_taken stock left start parts p q o o' mid.seat count last notes.0 st.0 seat at op tied st.1 notes.1
     (ap (λ (x : PlayerState). x.seat) notes.2) (ap (λ (x : PlayerState). x.opener) notes.2 ∙ is') (ap (λ (x : PlayerState). x.outcomes) notes.2 ∙ ap (λ x. x ++ listed notes.0) same))
 takes_steps stock left start parts p mid q o o' s who count last (Err why) one seat here is is' same tied stepped notes err at =
-    subst (λ w. HasHalted stock parts (Some (StepLine w count)) why) (sym one)
-    (halted stock parts (StepLine 1 count) why err (lives_one start parts o p.seat seat at.past (opened_in stock left start parts p o is at), tt))
+    steps_halted stock left start parts p o who count why one seat is err at
 
 -- the call runs that was begun
 begun_follows : (call : Asked) (now n : ℕ) (past : List Event) (old new : OpenerState) → n ≡ length (changes_of past) → Begins call now n old new →

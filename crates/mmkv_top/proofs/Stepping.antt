@@ -121,7 +121,7 @@ answered a who c r own start past one follows of is =
       begun = of.begun ∙ follows.begun;
       place_begun = is.begun;
       place_ended = is.placed;
-      within = is.within;
+      ended = is.ended;
     }
 
 -- what a step of a call that runs comes to

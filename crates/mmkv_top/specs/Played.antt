@@ -71,7 +71,7 @@ pub record IsAnsweredBy (past : List Event) (c : Running) (who : ℕ) (a : Answe
   pub begun : a.begun ≡ length (changes_of c.past)
   pub place_begun : a.begun ≤ a.place
   pub place_ended : a.place ≤ a.ended
-  pub within : a.ended ≤ length (changes_of past)
+  pub ended : a.ended ≡ length (changes_of past)
 
 -- the reasons that are printed so far: damage and the switch of the expiry aren't there yet
 abbrev pub IsPrinted : Reason → Type 0

@@ -1,5 +1,5 @@
 // A script's opener at a region in memory.
-ghost use Rattle.std.specs.Prelude.{◌≡◌, ◌↔◌, [], IsTrue, IfOk, IfErr, List, Option, None, ℕ, false};
+ghost use Rattle.std.specs.Prelude.{◌≡◌, ◌↔◌, [], IsTrue, IfOk, IfErr, OnOk, List, Option, None, ℕ, false};
 ghost use Rattle.opener.specs.Calls.{IsBuilt};
 ghost use Rattle.opener.specs.Opener.{Tied};
 ghost use Rattle.opener.specs.declared.work.Work.TheVariants as Work;
@@ -134,8 +134,10 @@ impl Player {
         let Some(opener) = &mut self.opener else {
             return Err(Halt::Refused);
         };
-        let last = steps(opener, &mut self.seat, count);
-        self.note(last)
+        match steps(opener, &mut self.seat, count) {
+            Ok(last) => self.note(last),
+            Err(why) => Err(why),
+        }
     }
 
     // Adds what the opener's last step came to, if it is an outcome.
@@ -161,22 +163,27 @@ fn opener_at(alloc: Global, seat: &LocalSeat, handler: Box<dyn Handler + Send>) 
     Opener::new(alloc, seat.who(), handler)
 }
 
-// Steps of the running call, to the first that doesn't leave it going, or to so many. What the last of them came to.
-fn steps(opener: &mut Opener, seat: &mut LocalSeat, count: u32) -> Step
+// Steps of the running call, to the first that doesn't leave it going, or to so many. What the last of them came to. A step
+// that finds no place in the journal ends the play, also where the call's lock is still to be given up.
+fn steps(opener: &mut Opener, seat: &mut LocalSeat, count: u32) -> Result<Step, Halt>
     requires { Tied opener.old (seat_state seat.old) }
-    ensures tied { Tied opener.new (seat_state seat.new) }
-    ensures who { seat.new.who ≡ seat.old.who }
-    ensures stepped { (start : Region) (past : List Event) (held : ℕ) (before : Option Running) →
+    ensures tied { OnOk result (Tied opener.new (seat_state seat.new)) }
+    ensures who { OnOk result (seat.new.who ≡ seat.old.who) }
+    ensures stepped { IfOk result (λ last. (start : Region) (past : List Event) (held : ℕ) (before : Option Running) →
         Stepped start past held before 0 Step.Going [] opener.old seat.old →
-        (made : List Event) × Stepped start past held before count result made opener.new seat.new }
+        (made : List Event) × Stepped start past held before count last made opener.new seat.new) }
+    ensures err { IfErr result IsNoRefusal }
 {
     for _ in 0..count {
         match opener.step(seat) {
             Step::Going => {}
-            last => return last,
+            last => return Ok(last),
+        }
+        if matches!(opener.stop_found(), Some(Stop::JournalFull)) {
+            return Err(Halt::JournalFull);
         }
     }
-    Step::Going
+    Ok(Step::Going)
 }
 
 // The outcome of a line whose last step came to this, if it has one.

@@ -77,22 +77,6 @@ fn ask<S: Share>(opener: &mut Opener, share: &mut S, call: Call, now: u32) -> Op
     }
 }
 
-// A new opener's first call, over a seat at these files.
-pub fn first_of(
-    alloc: Global,
-    body: &[u8],
-    meta: &[u8],
-    fails: &[u64],
-    call: Call,
-) -> Option<(Step, Opener)>
-    requires { IsBuilt call }
-{
-    let mut seat = seat_at(alloc, body, meta, fails)?;
-    let mut opener = opener_of(alloc, &seat)?;
-    let step = ask(&mut opener, &mut seat, call, 100)?;
-    Some((step, opener))
-}
-
 // The header, which is the payload's size, and the bytes of the data file.
 fn sizes(seat: &LocalSeat) -> Option<(u32, usize)> {
     match seat.region().data_bytes() {
@@ -111,11 +95,12 @@ pub struct Ends {
     pub events: usize,
 }
 
-// Three calls of a new opener, over a seat at these files.
+// Three calls of a new opener, over a seat at these files whose calls of the listed numbers fail.
 pub fn ends_of(
     alloc: Global,
     body: &[u8],
     meta: &[u8],
+    fails: &[u64],
     first: Call,
     second: Call,
     third: Call,
@@ -124,7 +109,7 @@ pub fn ends_of(
     requires second { IsBuilt second }
     requires third { IsBuilt third }
 {
-    let mut seat = seat_at(alloc, body, meta, &[])?;
+    let mut seat = seat_at(alloc, body, meta, fails)?;
     let mut opener = opener_of(alloc, &seat)?;
     let first = ask(&mut opener, &mut seat, first, 100);
     let second = ask(&mut opener, &mut seat, second, 100);
@@ -136,6 +121,27 @@ pub fn ends_of(
         sizes: sizes(&seat),
         events: seat.region().journal().len(),
     })
+}
+
+// Why a new opener's first call is stopped.
+pub fn first_stop(
+    alloc: Global,
+    body: &[u8],
+    meta: &[u8],
+    fails: &[u64],
+    call: Call,
+) -> Option<Stop>
+    requires { IsBuilt call }
+{
+    let ends = ends_of(alloc, body, meta, fails, call, Call::Sync, Call::Sync)?;
+    stopped(&ends.first)
+}
+
+pub fn stopped(step: &Option<Step>) -> Option<Stop> {
+    match step {
+        Some(Step::Stopped(stop)) => Some(*stop),
+        _ => None,
+    }
 }
 
 // The changes before the answer, and the loads, stores and locks that it took.
@@ -181,13 +187,6 @@ fn is_keys(step: &Option<Step>, want: &[u8]) -> bool {
     }
 }
 
-pub fn stop_of(step: &Option<(Step, Opener)>) -> Option<Stop> {
-    match step {
-        Some((Step::Stopped(stop), _)) => Some(*stop),
-        _ => None,
-    }
-}
-
 pub fn get(alloc: Global) -> Result<Call, Memory>
     ensures { IfOk result IsBuilt }
 {
@@ -199,10 +198,16 @@ pub fn get(alloc: Global) -> Result<Call, Memory>
 #[test]
 fn a_second_read_looks_at_two_words_and_takes_no_lock(rt: HostRuntime) -> Result<(), Fail> {
     let alloc = rt.alloc();
-    let ends = ends_of(alloc, &BODY, &META, get(alloc)?, get(alloc)?, Call::Sync).expect(
-        &rt,
-        "ample memory",
-    );
+    let ends = ends_of(
+        alloc,
+        &BODY,
+        &META,
+        &[],
+        get(alloc)?,
+        get(alloc)?,
+        Call::Sync,
+    )
+    .expect(&rt, "ample memory");
     assert_eq!(rt; is_value(&ends.first, b"\x03abc"), true);
     assert_eq!(rt; counts(&ends.first), Some((0, 13, 0, 1)));
     assert_eq!(rt; is_value(&ends.second, b"\x03abc"), true);
@@ -214,10 +219,16 @@ fn a_second_read_looks_at_two_words_and_takes_no_lock(rt: HostRuntime) -> Result
 #[test]
 fn under_a_hold_nothing_is_locked_again(rt: HostRuntime) {
     let alloc = rt.alloc();
-    let ends = ends_of(alloc, &BODY, &META, Call::Hold, Call::Keys, Call::Count).expect(
-        &rt,
-        "ample memory",
-    );
+    let ends = ends_of(
+        alloc,
+        &BODY,
+        &META,
+        &[],
+        Call::Hold,
+        Call::Keys,
+        Call::Count,
+    )
+    .expect(&rt, "ample memory");
     assert_eq!(rt; counts(&ends.first), Some((0, 0, 0, 1)));
     assert_eq!(rt; is_keys(&ends.second, b"k"), true);
     assert_eq!(rt; counts(&ends.second), Some((0, 13, 0, 0)));
@@ -228,10 +239,16 @@ fn under_a_hold_nothing_is_locked_again(rt: HostRuntime) {
 #[test]
 fn the_last_release_gives_the_lock_up(rt: HostRuntime) {
     let alloc = rt.alloc();
-    let twice = ends_of(alloc, &BODY, &META, Call::Hold, Call::Hold, Call::Release).expect(
-        &rt,
-        "ample memory",
-    );
+    let twice = ends_of(
+        alloc,
+        &BODY,
+        &META,
+        &[],
+        Call::Hold,
+        Call::Hold,
+        Call::Release,
+    )
+    .expect(&rt, "ample memory");
     assert_eq!(rt; counts(&twice.second), Some((0, 0, 0, 0)));
     assert_eq!(rt; counts(&twice.third), Some((0, 0, 0, 0)));
     assert_eq!(rt; twice.events, 1);
@@ -239,6 +256,7 @@ fn the_last_release_gives_the_lock_up(rt: HostRuntime) {
         alloc,
         &BODY,
         &META,
+        &[],
         Call::Hold,
         Call::Release,
         Call::Release,
@@ -253,11 +271,11 @@ fn the_last_release_gives_the_lock_up(rt: HostRuntime) {
 fn each_call_on_the_share_that_fails_ends_the_opener(rt: HostRuntime) -> Result<(), Fail> {
     let alloc = rt.alloc();
     for fails in 0..15u64 {
-        let step = first_of(alloc, &BODY, &META, &[fails], get(alloc)?);
-        assert_eq!(rt; stop_of(&step), Some(Stop::Fault), "call {fails}");
+        let stop = first_stop(alloc, &BODY, &META, &[fails], get(alloc)?);
+        assert_eq!(rt; stop, Some(Stop::Fault), "call {fails}");
     }
-    let step = first_of(alloc, &BODY, &META, &[15], get(alloc)?);
-    assert_eq!(rt; stop_of(&step), None);
+    let stop = first_stop(alloc, &BODY, &META, &[15], get(alloc)?);
+    assert_eq!(rt; stop, None);
     Ok(())
 }
 
@@ -266,8 +284,8 @@ fn a_region_that_shows_no_whole_image_stops_the_call(rt: HostRuntime) {
     let alloc = rt.alloc();
     let mut meta = META;
     meta[28] = 4;
-    let step = first_of(alloc, &BODY, &meta, &[], Call::Sync);
-    assert_eq!(rt; stop_of(&step), Some(Stop::NotWhole(Shown::Header(11))));
+    let stop = first_stop(alloc, &BODY, &meta, &[], Call::Sync);
+    assert_eq!(rt; stop, Some(Stop::NotWhole(Shown::Header(11))));
 }
 
 #[test]

@@ -2,7 +2,7 @@
 ghost use Rattle.std.specs.Prelude.{IfOk};
 ghost use Rattle.opener.specs.Calls.{IsBuilt};
 
-use crate::tests::{BODY, META, counts, ends_of, first_of, get, is_value, stop_of};
+use crate::tests::{BODY, META, counts, ends_of, first_stop, get, is_value, stopped};
 use crate::{Step, Stop};
 use change_log::{Call, Reply};
 use expiring_map::{Bytes, Memory};
@@ -49,18 +49,14 @@ fn is_none(step: &Option<Step>) -> bool {
     }
 }
 
-fn stopped(step: &Option<Step>) -> Option<Stop> {
-    match step {
-        Some(Step::Stopped(stop)) => Some(*stop),
-        _ => None,
-    }
-}
-
 #[test]
 fn a_first_put_writes_the_pairs_anew_and_appends(rt: HostRuntime) -> Result<(), Fail> {
     let alloc = rt.alloc();
     let put = put(alloc, b"\x03abc", 0)?;
-    let ends = ends_of(alloc, b"", b"", put, get(alloc)?, Call::Sync).expect(&rt, "ample memory");
+    let ends = ends_of(alloc, b"", b"", &[], put, get(alloc)?, Call::Sync).expect(
+        &rt,
+        "ample memory",
+    );
     assert_eq!(rt; counts(&ends.first), Some((1, 11, 13, 1)));
     assert_eq!(rt; is_value(&ends.second, b"\x03abc"), true);
     assert_eq!(rt; counts(&ends.second), Some((2, 2, 0, 0)));
@@ -78,6 +74,7 @@ fn an_item_that_fits_is_appended(rt: HostRuntime) -> Result<(), Fail> {
         alloc,
         &body,
         &wide_meta([1, 0, 0, 0]),
+        &[],
         put,
         Call::Sync,
         Call::Sync,
@@ -97,6 +94,7 @@ fn an_item_of_a_byte_more_is_written_behind_the_pairs_anew(rt: HostRuntime) -> R
         alloc,
         &body,
         &wide_meta([1, 0, 0, 0]),
+        &[],
         put,
         Call::Sync,
         Call::Sync,
@@ -116,6 +114,7 @@ fn at_the_last_sequence_nothing_is_written_anew(rt: HostRuntime) -> Result<(), F
         alloc,
         &body,
         &wide_meta([0xff; 4]),
+        &[],
         put,
         get(alloc)?,
         Call::Sync,
@@ -135,6 +134,7 @@ fn a_remove_is_a_change_where_the_key_is_absent_too(rt: HostRuntime) -> Result<(
         alloc,
         &BODY,
         &META,
+        &[],
         remove(alloc)?,
         remove(alloc)?,
         Call::Sync,
@@ -149,10 +149,16 @@ fn a_remove_is_a_change_where_the_key_is_absent_too(rt: HostRuntime) -> Result<(
 #[test]
 fn a_clear_leaves_no_pair(rt: HostRuntime) -> Result<(), Fail> {
     let alloc = rt.alloc();
-    let ends = ends_of(alloc, &BODY, &META, Call::Clear, get(alloc)?, Call::Sync).expect(
-        &rt,
-        "ample memory",
-    );
+    let ends = ends_of(
+        alloc,
+        &BODY,
+        &META,
+        &[],
+        Call::Clear,
+        get(alloc)?,
+        Call::Sync,
+    )
+    .expect(&rt, "ample memory");
     assert_eq!(rt; counts(&ends.first), Some((0, 14, 7, 1)));
     assert_eq!(rt; is_none(&ends.second), true);
     assert_eq!(rt; ends.sizes, Some((4, 4096)));
@@ -163,7 +169,7 @@ fn a_clear_leaves_no_pair(rt: HostRuntime) -> Result<(), Fail> {
 fn a_put_under_a_hold_takes_no_lock(rt: HostRuntime) -> Result<(), Fail> {
     let alloc = rt.alloc();
     let put = put(alloc, b"\x01d", 0)?;
-    let ends = ends_of(alloc, &BODY, &META, Call::Hold, put, Call::Sync).expect(
+    let ends = ends_of(alloc, &BODY, &META, &[], Call::Hold, put, Call::Sync).expect(
         &rt,
         "ample memory",
     );
@@ -176,24 +182,34 @@ fn a_put_under_a_hold_takes_no_lock(rt: HostRuntime) -> Result<(), Fail> {
 #[test]
 fn a_put_that_expires_wants_expiry_and_an_end_in_range(rt: HostRuntime) -> Result<(), Fail> {
     let alloc = rt.alloc();
-    let off = first_of(alloc, &BODY, &META, &[], put(alloc, b"\x01d", 5)?);
-    assert_eq!(rt; stop_of(&off), Some(Stop::ExpiryOff));
+    let put_off = put(alloc, b"\x01d", 5)?;
+    let off = first_stop(alloc, &BODY, &META, &[], put_off);
+    assert_eq!(rt; off, Some(Stop::ExpiryOff));
     let mut meta = [0; 108];
     meta[4] = 4;
     meta[104] = 1;
-    let late = first_of(alloc, b"", &meta, &[], put(alloc, b"\x01d", u32::MAX)?);
-    assert_eq!(rt; stop_of(&late), Some(Stop::ExpiryRange));
+    let put_late = put(alloc, b"\x01d", u32::MAX)?;
+    let late = first_stop(alloc, b"", &meta, &[], put_late);
+    assert_eq!(rt; late, Some(Stop::ExpiryRange));
     Ok(())
+}
+
+// How a first put into a fresh store is stopped whose call of this number on the share fails.
+fn put_stopped(alloc: Global, fails: u64) -> Result<Option<Stop>, Memory> {
+    let put = put(alloc, b"\x03abc", 0)?;
+    Ok(first_stop(alloc, b"", b"", &[fails], put))
 }
 
 #[test]
 fn each_of_the_calls_of_a_first_put_may_fail(rt: HostRuntime) -> Result<(), Fail> {
     let alloc = rt.alloc();
     for fails in 0..27u64 {
-        let step = first_of(alloc, b"", b"", &[fails], put(alloc, b"\x03abc", 0)?);
-        assert_eq!(rt; stop_of(&step), Some(Stop::Fault), "call {fails}");
+        assert_eq!(rt;
+            put_stopped(alloc, fails)?,
+            Some(Stop::Fault),
+            "call {fails}"
+        );
     }
-    let step = first_of(alloc, b"", b"", &[27], put(alloc, b"\x03abc", 0)?);
-    assert_eq!(rt; stop_of(&step), None);
+    assert_eq!(rt; put_stopped(alloc, 27)?, None);
     Ok(())
 }

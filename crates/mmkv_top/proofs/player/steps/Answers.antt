@@ -12,6 +12,7 @@ returns-in_default g c = record {
   who = seat_stays c.loop.seat c.step.new.share c.step.ensures.makes ∙ c.loop.invariant.1;
   stepped = step_more c.args.count c.loop.counter c.args.opener.now c.args.seat.now c.loop.opener c.step.new.self c.loop.seat c.step.new.share c.step.result (omega (arith, c.loop-test.true))
       c.loop.invariant.2 c.loop.invariant.0 c.step.ensures.tied c.step.ensures.makes c.step.ensures.call c.step.ensures.cause c.step.ensures.answer;
+  err = tt;
 }
 
 pub loop-preserved : goal.loop-preserved
