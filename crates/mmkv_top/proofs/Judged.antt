@@ -1,8 +1,10 @@
--- What was played is lawful, and its answers stand in it.
+-- What was played is lawful, and its answers are one legal history.
 use Rattle.std.proofs.Common.{List, [], sym, subst}
 use Rattle.std.specs.Prelude.{Option, Some, None}
 use Rattle.opener.specs.State.{OpenerState}
-use Rattle.region_words.specs.Region.{Region}
+use Rattle.change_log.specs.History.{Legal}
+use Rattle.region_words.specs.Past.{changes_of}
+use Rattle.region_words.specs.Region.{Region, base}
 use Rattle.region_words.specs.Lawful.{Lawful}
 use Rattle.mmkv_top.specs.State.{PlayerState}
 use Rattle.mmkv_top.specs.Parts.{Part, past_of, outcomes_of, answers_in}
@@ -10,6 +12,8 @@ use Rattle.mmkv_top.specs.Played.{Stock}
 use Rattle.mmkv_top.specs.Play.{AreAnswered, IsJournal}
 use Rattle.mmkv_top.specs.Player.{OpenerAt, IsAt, IsReady}
 use Rattle.mmkv_top.proofs.Answering.{nothing_answered}
+use Rattle.mmkv_top.proofs.Settled.{so_far_legal}
+use Rattle.mmkv_top.proofs.Settling.{legal_none}
 
 -- the parts that were played are a lawful journal, in which the answers stand
 pub journal_of : (stock left : Stock) (start : Region) (parts : List Part) (p : PlayerState) → IsReady p → IsAt stock left start parts p → IsJournal stock start parts
@@ -21,9 +25,14 @@ journal_of stock left start parts p ready at = go p.opener at.opener
       lawful = subst (Lawful start) (sym un.past) tt;
       answers = subst (λ x. AreAnswered start x (answers_in (outcomes_of parts))) (sym un.past)
           (subst (λ x. AreAnswered start [] (answers_in x)) (sym un.outcomes) (nothing_answered start).are);
+      legal = λ accepted apart. subst (λ x. Legal (base start) (changes_of x) (answers_in (outcomes_of parts))) (sym un.past)
+          (subst (λ x. Legal (base start) [] (answers_in x)) (sym un.outcomes) (legal_none (base start)));
     }
-    go (Some o) op = record {
-      each = at.each;
-      lawful = subst (λ x. Lawful x (past_of parts)) at.start_is (subst (Lawful p.seat.region.start) at.past op.tied.told.agrees.lawful);
-      answers = op.answered.are;
-    }
+    go (Some o) op =
+        let lawful : Lawful start (past_of parts) = subst (λ x. Lawful x (past_of parts)) at.start_is (subst (Lawful p.seat.region.start) at.past op.tied.told.agrees.lawful) in
+        record {
+          each = at.each;
+          lawful = lawful;
+          answers = op.answered.are;
+          legal = λ accepted apart. so_far_legal o.work start (past_of parts) (answers_in (outcomes_of parts)) op.ours lawful (op.settles accepted apart);
+        }

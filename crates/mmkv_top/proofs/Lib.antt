@@ -1,6 +1,8 @@
 mod Dumped
 mod Stepping
 mod Answering
+mod Settling
+mod Settled
 mod LineEnds
 mod Opening
 mod Judged

@@ -5,6 +5,7 @@ use Rattle.std.specs.List.{AllByRecursion}
 use Rattle.change_log.specs.declared.call.Answer.{Answer}
 use Rattle.change_log.specs.declared.call.Call.{Call as Asked}
 use Rattle.opener.specs.Calls.{IsBuilt, holds_after}
+use Rattle.opener.specs.Adds.{AreMade}
 use Rattle.opener.specs.Begins.{Begins, call_refusal, refusal, refusal_at}
 use Rattle.opener.specs.Opener.{Tied, OnAnswer, IsAnswer}
 use Rattle.opener.specs.State.{OpenerState}
@@ -26,8 +27,9 @@ use Rattle.mmkv_top.specs.declared.halt.Halt.TheVariants as halt
 use Rattle.mmkv_top.specs.Parts.{Part, past_of, outcomes_of, answers_in, listed, strategies, lives, holds_of, held_after, Running, running, stepped, going_on}
 use Rattle.mmkv_top.specs.Played.{Stock, AreSteps, IsOutcomeOf, IsStepLine}
 use Rattle.mmkv_top.specs.Play.{CanTake}
-use Rattle.mmkv_top.specs.Player.{FollowsWork, CameTo, Stepped, IsOutcomeAt, IsOpened, OpenerAt, IsAt, TakesOne, Takes, HasHalted, HasAnswered, Notes, IsNoRefusal}
+use Rattle.mmkv_top.specs.Player.{ChangesOn, FollowsWork, CameTo, Settles, Stepped, IsOutcomeAt, IsOpened, OpenerAt, IsAt, TakesOne, Takes, HasHalted, HasAnswered, Notes, IsNoRefusal}
 use Rattle.mmkv_top.proofs.Answering.{goes_on, stops, answers_one}
+use Rattle.mmkv_top.proofs.Settled.{begin_settles, line_settles}
 use Rattle.mmkv_top.proofs.Stepping.{right_false, follows_alive}
 
 -- the end of a line, or the call that runs without one
@@ -89,7 +91,7 @@ going_none (Some r) = refl
 -- a line of steps begins here
 pub first_step : (start : Region) (parts : List Part) (o : OpenerState) (s : Seated) → s.who ≡ 1 → s.region.start ≡ start → s.region.past ≡ past_of parts →
     s.region.failing.listed ≡ [] → IsOpened start parts o s →
-    Stepped start (past_of parts) (holds_of 1 parts) (running 1 parts) 0 step.Going [] o s
+    Stepped start (past_of parts) (holds_of 1 parts) (running 1 parts) o.work 0 step.Going [] o s
 first_step start parts o s who start_is past steady op =
     record {
       few = omega arith;
@@ -102,6 +104,7 @@ first_step start parts o s who start_is past steady op =
       steady = steady;
       answer = tt;
       came = (subst (FollowsWork o.work) (sym (going_none (running 1 parts))) op.follows, op.holds);
+      changed = λ so_far are. ([], ap changes_of past ∙ sym (append-nil (changes_of (past_of parts))), subst (AreMade 1 o.work) (sym (append-nil so_far)) are);
     }
 
 -- the opener lives
@@ -127,7 +130,7 @@ ours_join (e ∷ made) past own ours = (own.0.0, ours_join made past own.1 ours)
 -- a line of steps was taken
 pub steps_taken : (stock left : Stock) (start : Region) (parts : List Part) (p q : PlayerState) (o o' : OpenerState) (t : Seated) (count : ℕ) (last : Step) (outcome : Option Outcome) (made : List Event) →
     p.seat.who ≡ 1 → IsAt stock left start parts p → IsOpened start parts o p.seat → Tied o' (seat_state t) →
-    Stepped start (past_of parts) (holds_of 1 parts) (running 1 parts) count last made o' t → IsOutcomeAt last outcome →
+    Stepped start (past_of parts) (holds_of 1 parts) (running 1 parts) o.work count last made o' t → IsOutcomeAt last outcome →
     q.seat ≡ t → q.opener ≡ Some o' → q.outcomes ≡ p.outcomes ++ listed outcome →
     TakesOne stock left start parts (Some (StepLine 1 count)) q
 steps_taken stock left start parts p q o o' t count last outcome made who at op tied st noted seat opener outcomes =
@@ -144,6 +147,12 @@ steps_taken stock left start parts p q o o' t count last outcome made who at op 
       ours = ours_join made (past_of parts) st.own op.ours;
       answered = subst (HasAnswered start (made ++ past_of parts) (option_and_then (stepped outcome) (option_map (going_on made) (running 1 parts))))
           (sym (answers_join (outcomes_of parts) (listed outcome))) ends.answered;
+      settles = subst (Settles o'.work start (made ++ past_of parts)) (sym (answers_join (outcomes_of parts) (listed outcome)))
+          (line_settles start (past_of parts) made (answers_in (outcomes_of parts)) (holds_of 1 parts) (running 1 parts) o.work last o' outcome op.follows op.answered op.settles
+          (subst (λ x. OnAnswer last (λ a. IsAnswer a x (made ++ past_of parts))) st.start_is
+          (subst (λ x. OnAnswer last (λ a. IsAnswer a t.region.start x)) st.past_is st.answer))
+          (subst (λ x. CameTo x (holds_of 1 parts) (option_map (going_on made) (running 1 parts)) last o') st.past_is st.came)
+          (subst (ChangesOn o.work last o'.work (past_of parts)) st.past_is st.changed) noted);
     } in (
       made,
       outcome,
@@ -179,13 +188,13 @@ steps_halted stock left start parts p o who count why one seat is free at =
 -- what comes of a line of steps
 pub takes_steps : {A : Type 0} (stock left : Stock) (start : Region) (parts : List Part) (p mid q : PlayerState) (o o' : OpenerState) (s : Seated) (who count : ℕ) (last : Step) (result : Result A Halt) →
     who ≡ 1 → p.seat.who ≡ 1 → s ≡ p.seat → p.opener ≡ Some o → mid.opener ≡ Some o' → mid.outcomes ≡ p.outcomes → Tied o' (seat_state mid.seat) →
-    ((start : Region) (past : List Event) (held : ℕ) (before : Option Running) → Stepped start past held before 0 step.Going [] o s →
-    (made : List Event) × Stepped start past held before count last made o' mid.seat) →
+    ((start : Region) (past : List Event) (held : ℕ) (before : Option Running) → Stepped start past held before o.work 0 step.Going [] o s →
+    (made : List Event) × Stepped start past held before o.work count last made o' mid.seat) →
     OnOk result (Notes last mid q) → IfErr result IsNoRefusal → IsAt stock left start parts p → Takes stock left start parts (Some (StepLine who count)) q result
 takes_steps stock left start parts p mid q o o' s who count last (Ok x) one seat here is is' same tied stepped notes err at =
     let op = opened_in stock left start parts p o is at in
     let st = stepped start (past_of parts) (holds_of 1 parts) (running 1 parts)
-    (subst (Stepped start (past_of parts) (holds_of 1 parts) (running 1 parts) 0 step.Going [] o) (sym here)
+    (subst (Stepped start (past_of parts) (holds_of 1 parts) (running 1 parts) o.work 0 step.Going [] o) (sym here)
     (first_step start parts o p.seat seat at.start_is at.past at.steady op)) in
     subst (λ w. TakesOne stock left start parts (Some (StepLine w count)) q) (sym one)
     (steps_taken stock left start parts p q o o' mid.seat count last notes.0 st.0 seat at op tied st.1 notes.1
@@ -244,6 +253,8 @@ begin_taken stock left start parts p q o o' who now call one built seat is seat_
       ours = op.ours;
       answered = subst (λ xs. HasAnswered start (past_of parts) (Some (record { call = call; now = now; past = past_of parts; since = [] })) (answers_in xs)) (sym (append-nil (outcomes_of parts)))
           (record { are = op.answered.are; within = op.answered.within; earlier = op.answered.within });
+      settles = subst (λ xs. Settles o'.work start (past_of parts) (answers_in xs)) (sym (append-nil (outcomes_of parts)))
+          (begin_settles start (past_of parts) (answers_in (outcomes_of parts)) call now (length (changes_of p.seat.region.past)) o o' (ap (λ x. length (changes_of x)) at.past) first begins op.settles);
     }
 
 -- the same by the seat that the call was begun at

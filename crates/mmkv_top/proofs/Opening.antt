@@ -21,9 +21,10 @@ use Rattle.script_lang.specs.declared.line.Line.TheVariants.{Open}
 use Rattle.mmkv_top.specs.State.{PlayerState}
 use Rattle.mmkv_top.specs.Parts.{Part, past_of, outcomes_of, answers_in, strategies, running, going_on}
 use Rattle.mmkv_top.specs.Played.{Stock, stocked, drawn}
-use Rattle.mmkv_top.specs.Player.{IsOpened, IsUnopened, OpenerAt, IsAt, IsReady, IsReadyFor, TakesOne, FollowsWork, HasAnswered}
+use Rattle.mmkv_top.specs.Player.{IsOpened, IsUnopened, OpenerAt, IsAt, IsReady, IsReadyFor, TakesOne, FollowsWork, HasAnswered, Settles}
 use Rattle.mmkv_top.proofs.Answering.{nothing_answered}
 use Rattle.mmkv_top.proofs.LineEnds.{going_none}
+use Rattle.mmkv_top.proofs.Settled.{nothing_to_settle}
 
 abbrev new_opener : ℕ → OpenerState
 new_opener who = record { who = who; image = None; holds = 0; work = Idle }
@@ -101,6 +102,9 @@ open_taken stock left left' start parts p q o who strategy none had begins past 
       answered = subst (λ xs. HasAnswered start (past_of parts) (option_map (going_on []) (running 1 parts)) (answers_in xs)) (sym (append-nil (outcomes_of parts) ∙ un.outcomes))
           (subst (λ r. HasAnswered start (past_of parts) r []) (sym (going_none (running 1 parts) ∙ un.idle))
           (subst (λ x. HasAnswered start x None []) (sym un.past) (nothing_answered start)));
+      settles = subst (λ (x : OpenerState). Settles x.work start (past_of parts) (answers_in (outcomes_of parts ++ []))) (sym new)
+          (subst (λ xs. Settles Idle start (past_of parts) (answers_in xs)) (sym (append-nil (outcomes_of parts) ∙ un.outcomes))
+          (subst (λ x. Settles Idle start x []) (sym un.past) (nothing_to_settle start)));
     }
 
 abbrev nothing : Part
@@ -127,6 +131,7 @@ grow_nothing stock left start parts s (Some o) op =
       ours = op.ours;
       answered = subst (λ xs. HasAnswered start (past_of parts) (option_map (going_on []) (running 1 parts)) (answers_in xs)) (sym (append-nil (outcomes_of parts)))
           (subst (λ r. HasAnswered start (past_of parts) r (answers_in (outcomes_of parts))) (sym (going_none (running 1 parts))) op.answered);
+      settles = subst (λ xs. Settles o.work start (past_of parts) (answers_in xs)) (sym (append-nil (outcomes_of parts))) op.settles;
     }
 
 -- a line that names nothing

@@ -1,11 +1,15 @@
 -- A line goes on by one step of its opener.
-use Rattle.std.proofs.Common.{◌≡◌, ℕ, ◌+◌, ◌≤◌, Bool, true, false, List, [], ◌∷◌, ◌++◌, length, refl, sym, ap, ◌∙◌, inl, inr, arith, subst, append_assoc, length-append, eq-eqb}
+use Rattle.std.proofs.Common.{◌≡◌, ℕ, ◌+◌, ◌≤◌, Bool, true, false, List, [], ◌∷◌, ◌++◌, length, refl, sym, ap, ◌∙◌, inl, inr, arith, subst, append-nil, append_assoc, length-append, eq-eqb}
 use Rattle.std.proofs.lemmas.List.{length-map}
 use Rattle.std.specs.Prelude.{Option, Some, None, IfSome, option_map, not, ◌||◌, ◌&&◌, ◌==◌}
 use Rattle.std.specs.Option.{option_map_or}
+use Rattle.change_log.specs.Settled.{AreOfCall}
 use Rattle.change_log.specs.declared.call.Answer.{Answer}
+use Rattle.change_log.specs.declared.change.Change.{Change}
 use Rattle.lock_rules.specs.Locks.{IsLeastAgainst}
 use Rattle.opener.specs.Calls.{holds_after}
+use Rattle.opener.specs.Adds.{AddsTo, AreMade, AreMadeBy}
+use Rattle.opener.specs.Writes.{commits_of}
 use Rattle.opener.specs.Opener.{Tied, MakesOne, KeepsWork, KeepsCall, HasCause, HasStopped, OnAnswer, IsAnswer, IsAnswerOf, RunsOn, IsAt, IsSeen, stop_found, is_ended}
 use Rattle.opener.specs.State.{OpenerState}
 use Rattle.opener.specs.declared.calls.Step.{Step}
@@ -19,15 +23,15 @@ use Rattle.opener.specs.declared.work.Stage.TheVariants as stage
 use Rattle.opener.specs.declared.work.Work.{Work}
 use Rattle.opener.specs.declared.work.Work.TheVariants.{Idle, Ended, Runs}
 use Rattle.region_words.specs.Region.{Region}
-use Rattle.region_words.specs.Past.{locks_after, has_died, is_death}
+use Rattle.region_words.specs.Past.{change_of, changes_of, locks_after, has_died, is_death}
 use Rattle.region_words.specs.Local.{Seated, seat_state, account_of}
-use Rattle.region_words.specs.Share.{ShareState, made_by}
-use Rattle.region_words.specs.Told.{History, OnTold}
+use Rattle.region_words.specs.Share.{Grows, ShareState, made_by}
+use Rattle.region_words.specs.Told.{History, OnBoth, OnTold}
 use Rattle.region_words.specs.declared.event.Event.{Event}
 use Rattle.region_words.specs.declared.event.What.{What}
 use Rattle.mmkv_top.specs.Parts.{Running, going_on}
 use Rattle.mmkv_top.specs.Played.{AreSteps, IsAnsweredBy}
-use Rattle.mmkv_top.specs.Player.{Follows, FollowsWork, CameTo, Stepped}
+use Rattle.mmkv_top.specs.Player.{AreMadeOn, ChangesOn, Follows, FollowsWork, CameTo, Stepped}
 
 -- what a call on the seat made
 record Moved (s t : Seated) : Type 0 where
@@ -205,14 +209,86 @@ going_twice own made (Some r) = ap (λ x. Some (record r { since = x })) (sym (a
 abbrev event_by : ℕ → What → Event
 event_by who what = record { who = who; what = what }
 
+-- the changes of one event more
+grown_changes : (who : ℕ) (own : List What) (past : List Event) → length own ≤ 1 → changes_of (made_by who own ++ past) ≡ changes_of past ++ commits_of own
+grown_changes who [] past few = sym (append-nil (changes_of past))
+grown_changes who (x ∷ []) past few = ap (λ l. changes_of past ++ l) (sym (append-nil (change_of x)))
+grown_changes who (x ∷ y ∷ own) past few = absurd (omega (arith, few))
+
+module _ (s t : Seated) (makes : MakesOne (seat_state s) (seat_state t)) (steady : s.region.failing.listed ≡ []) where
+  -- what was made by the step of a call
+  made_on : (o o' : OpenerState) (c : Call) (at : Stage) (result : Step) (made : List Change) → o.who ≡ 1 → IsAt o (Runs c at) → KeepsCall o.who o.holds c result o' →
+      HasCause (Runs c at) result o'.work (seat_state s) (seat_state t) → AreMadeBy 1 c result o'.work made → AreMadeOn result o'.work made
+  made_on o o' c at step.Idle made one is keeps cause are = absurd keeps
+  made_on o o' c at step.Going made one is keeps cause are = are
+  made_on o o' c at step.Again made one is keeps cause are = are
+  made_on o o' c at (step.Blocked holder) made one is keeps cause are = are
+  made_on o o' c at (step.Answered a) made one is keeps cause are =
+      subst (λ x. AreOfCall 1 x a.now made) (sym keeps.0.call_is) (subst (λ n. AreOfCall 1 c.call n made) (sym keeps.0.moment) are)
+  made_on o o' c at (step.Stopped stop.Fault) made one is keeps cause are = absurd (no_fault (stop_found (Runs c at)) (Runs c at) s t (found_seen o (Runs c at) is) steady cause)
+  made_on o o' c at (step.Stopped stop.Memory) made one is keeps cause are = are
+  made_on o o' c at (step.Stopped stop.JournalFull) made one is keeps cause are = are
+  made_on o o' c at (step.Stopped (stop.NotWhole seen)) made one is keeps cause are = are
+  made_on o o' c at (step.Stopped (stop.Version n)) made one is keeps cause are = are
+  made_on o o' c at (step.Stopped (stop.Flags n)) made one is keeps cause are = are
+  made_on o o' c at (step.Stopped (stop.Full need)) made one is keeps cause are = are
+  made_on o o' c at (step.Stopped stop.SequenceEnd) made one is keeps cause are = are
+  made_on o o' c at (step.Stopped stop.ExpiryOff) made one is keeps cause are = are
+  made_on o o' c at (step.Stopped stop.ExpiryRange) made one is keeps cause are = are
+
+  -- the changes of a step
+  step_commits : (own : List What) → OnBoth (seat_state s).told (seat_state t).told (Grows s.who true own) → changes_of t.region.past ≡ changes_of s.region.past ++ commits_of own
+  step_commits own grows =
+      let m = moved s t makes in
+      let is : t.region.past ≡ made_by s.who own ++ s.region.past = grows.past ∙ ap (λ x. made_by s.who own ++ (x ++ s.region.past)) (grows.none refl) in
+      let same : length (made_by s.who own ++ s.region.past) ≡ length (made_by s.who m.own ++ s.region.past) = ap length (sym is ∙ m.past) in
+      let few : length own ≤ 1 =
+      omega (arith, same, length-append (made_by s.who own) s.region.past, length-append (made_by s.who m.own) s.region.past, length-map own (event_by s.who), length-map m.own (event_by s.who), m.few) in
+      ap changes_of is ∙ grown_changes s.who own s.region.past few
+
+  -- and what was made since the line began
+  step_changed : (past : List Event) (first : Work) (o o' : OpenerState) (work : Work) (result : Step) → o.who ≡ 1 → IsAt o work →
+      AddsTo 1 work result o'.work (seat_state s) (seat_state t) → KeepsWork (record o { work = work }) result o' → HasCause work result o'.work (seat_state s) (seat_state t) →
+      ChangesOn first step.Going work past s.region.past → ChangesOn first result o'.work past t.region.past
+  step_changed past first o o' Idle result one is adds keeps cause on = still keeps on adds
+    where
+      still : (result ≡ step.Idle) × (o' ≡ record o { work = Idle }) → ChangesOn first step.Going Idle past s.region.past → seat_state t ≡ seat_state s →
+          ChangesOn first result o'.work past t.region.past
+      still keeps on same so_far are =
+          let now = on so_far are in
+          let stays : t.region.past ≡ s.region.past = ap (λ (x : ShareState). option_map_or (λ (h : History). h.past) x.told []) same in (
+            now.0,
+            ap changes_of stays ∙ now.1,
+            subst (λ r. AreMadeOn r o'.work (so_far ++ now.0)) (sym keeps.0) (subst (λ (x : OpenerState). AreMade 1 x.work (so_far ++ now.0)) (sym keeps.1) now.2),
+          )
+  step_changed past first o o' Ended result one is adds keeps cause on = still keeps on adds
+    where
+      still : (result ≡ step.Idle) × (o' ≡ record o { work = Ended }) → ChangesOn first step.Going Ended past s.region.past → seat_state t ≡ seat_state s →
+          ChangesOn first result o'.work past t.region.past
+      still keeps on same so_far are =
+          let now = on so_far are in
+          let stays : t.region.past ≡ s.region.past = ap (λ (x : ShareState). option_map_or (λ (h : History). h.past) x.told []) same in (
+            now.0,
+            ap changes_of stays ∙ now.1,
+            subst (λ r. AreMadeOn r o'.work (so_far ++ now.0)) (sym keeps.0) (subst (λ (x : OpenerState). AreMade 1 x.work (so_far ++ now.0)) (sym keeps.1) now.2),
+          )
+  step_changed past first o o' (Runs c at) result one is adds keeps cause on = λ so_far are.
+      let now = on so_far are in
+      let made = adds.made (so_far ++ now.0) now.2 in (
+        now.0 ++ commits_of adds.own,
+        step_commits adds.own adds.grows ∙ ap (λ l. l ++ commits_of adds.own) now.1 ∙ append_assoc (changes_of past) now.0 (commits_of adds.own),
+        subst (AreMadeOn result o'.work) (append_assoc so_far now.0 (commits_of adds.own)) (made_on o o' c at result ((so_far ++ now.0) ++ commits_of adds.own) one is keeps cause made),
+      )
+
 -- one step more
-pub one_more : (start : Region) (past : List Event) (held : ℕ) (before : Option Running) (n : ℕ) (made : List Event)
+pub one_more : (start : Region) (past : List Event) (held : ℕ) (before : Option Running) (first : Work) (n : ℕ) (made : List Event)
     (o o' : OpenerState) (s t : Seated) (result : Step) →
-    Stepped start past held before n step.Going made o s → Tied o (seat_state s) → Tied o' (seat_state t) →
-    MakesOne (seat_state s) (seat_state t) → KeepsWork o result o' → HasCause o.work result o'.work (seat_state s) (seat_state t) →
+    Stepped start past held before first n step.Going made o s → Tied o (seat_state s) → Tied o' (seat_state t) →
+    MakesOne (seat_state s) (seat_state t) → AddsTo o.who o.work result o'.work (seat_state s) (seat_state t) → KeepsWork o result o' →
+    HasCause o.work result o'.work (seat_state s) (seat_state t) →
     OnAnswer result (λ a. OnTold (seat_state t).told (λ h. IsAnswer a h.start h.past)) →
-    (more : List Event) × Stepped start past held before (n + 1) result more o' t
-one_more start past held before n made o o' s t result st tied tied' makes keeps cause answer =
+    (more : List Event) × Stepped start past held before first (n + 1) result more o' t
+one_more start past held before first n made o o' s t result st tied tied' makes adds keeps cause answer =
     let m = moved s t makes in
     let own = made_by 1 m.own in
     let grown : t.region.past ≡ own ++ s.region.past = m.past ∙ ap (λ w. made_by w m.own ++ s.region.past) st.seat in
@@ -235,15 +311,16 @@ one_more start past held before n made o o' s t result st tied tied' makes keeps
         steady = m.listed ∙ st.steady;
         answer = answer;
         came = subst (λ r. CameTo t.region.past held r result o') (going_twice own made before) came;
+        changed = step_changed s t makes st.steady past first o o' o.work result st.who tied.at (subst (λ w. AddsTo w o.work result o'.work (seat_state s) (seat_state t)) st.who adds) keeps cause st.changed;
       },
     )
 
 pub seat_stays : (s t : Seated) → MakesOne (seat_state s) (seat_state t) → t.who ≡ s.who
 seat_stays s t makes = (moved s t makes).who
 
-pub at_most : (start : Region) (past : List Event) (held : ℕ) (before : Option Running) (n count : ℕ) (result : Step) (made : List Event) (o : OpenerState) (s : Seated) →
-    n ≤ count → Stepped start past held before n result made o s → Stepped start past held before count result made o s
-at_most start past held before n count result made o s below st =
+pub at_most : (start : Region) (past : List Event) (held : ℕ) (before : Option Running) (first : Work) (n count : ℕ) (result : Step) (made : List Event) (o : OpenerState) (s : Seated) →
+    n ≤ count → Stepped start past held before first n result made o s → Stepped start past held before first count result made o s
+at_most start past held before first n count result made o s below st =
     record {
       few = omega (arith, st.few, below);
       own = st.own;
@@ -255,17 +332,19 @@ at_most start past held before n count result made o s below st =
       steady = st.steady;
       answer = st.answer;
       came = st.came;
+      changed = st.changed;
     }
 
 -- one step more on the way
 pub step_more : (count n : ℕ) (o1 : OpenerState) (s1 : Seated) (o o' : OpenerState) (s t : Seated) (result : Step) → n + 1 ≤ count →
-    ((start : Region) (past : List Event) (held : ℕ) (before : Option Running) → Stepped start past held before 0 step.Going [] o1 s1 →
-    (made : List Event) × Stepped start past held before n step.Going made o s) → Tied o (seat_state s) → Tied o' (seat_state t) →
-    MakesOne (seat_state s) (seat_state t) → KeepsWork o result o' → HasCause o.work result o'.work (seat_state s) (seat_state t) →
+    ((start : Region) (past : List Event) (held : ℕ) (before : Option Running) → Stepped start past held before o1.work 0 step.Going [] o1 s1 →
+    (made : List Event) × Stepped start past held before o1.work n step.Going made o s) → Tied o (seat_state s) → Tied o' (seat_state t) →
+    MakesOne (seat_state s) (seat_state t) → AddsTo o.who o.work result o'.work (seat_state s) (seat_state t) → KeepsWork o result o' →
+    HasCause o.work result o'.work (seat_state s) (seat_state t) →
     OnAnswer result (λ a. OnTold (seat_state t).told (λ h. IsAnswer a h.start h.past)) →
-    (start : Region) (past : List Event) (held : ℕ) (before : Option Running) → Stepped start past held before 0 step.Going [] o1 s1 →
-    (made : List Event) × Stepped start past held before count result made o' t
-step_more count n o1 s1 o o' s t result below so_far tied tied' makes keeps cause answer start past held before first =
+    (start : Region) (past : List Event) (held : ℕ) (before : Option Running) → Stepped start past held before o1.work 0 step.Going [] o1 s1 →
+    (made : List Event) × Stepped start past held before o1.work count result made o' t
+step_more count n o1 s1 o o' s t result below so_far tied tied' makes adds keeps cause answer start past held before first =
     let now = so_far start past held before first in
-    let next = one_more start past held before n now.0 o o' s t result now.1 tied tied' makes keeps cause answer in
-    (next.0, at_most start past held before (n + 1) count result next.0 o' t below next.1)
+    let next = one_more start past held before o1.work n now.0 o o' s t result now.1 tied tied' makes adds keeps cause answer in
+    (next.0, at_most start past held before o1.work (n + 1) count result next.0 o' t below next.1)

@@ -7,9 +7,6 @@ use Rattle.mmkv_top.specs.declared.halt.Halt.TheVariants as halt
 abbrev pub memory : Halt
 memory = halt.Memory
 
-abbrev pub refused : Halt
-refused = halt.Refused
-
 -- no place was kept for an opener's death
 abbrev pub of_admission : AdmitStop → Halt
 of_admission admit.JournalFull = halt.JournalFull

@@ -2,7 +2,7 @@
 use Rattle.std.specs.Prelude.{◌≡◌, ◌≢◌, ℕ, ◌+◌, ◌-◌, ◌<◌, ◌≤◌, ◌⊎◌, Bool, true, false, List, [], ◌∷◌, ◌++◌, Option, Some, None, length, take, map, All, AllPairs, nat_eq, slice_index, if◌then◌else◌, codes, decimal, ⊤}
 use Rattle.std.specs.List.{ends_with}
 use Rattle.bstr.specs.Text.{lines_of as cut_lines}
-use Rattle.change_log.specs.History.{IsPlaced, IsMade}
+use Rattle.change_log.specs.History.{IsPlaced, IsMade, Legal}
 use Rattle.change_log.specs.declared.call.Answer.{Answer}
 use Rattle.opener.specs.Calls.{IsBuilt}
 use Rattle.region_words.specs.Region.{Region, IsAccepted, base}
@@ -64,11 +64,13 @@ pub record AreAnswered (start : Region) (past : List Event) (answers : List Answ
   pub made : All (IsMade (base start) (changes_of past)) answers
   pub placed : IsAccepted start → Apart start past → All (IsPlaced (base start) (changes_of past)) answers
 
--- a journal of these parts, which is lawful and in which the answers stand
+-- A journal of these parts, which is lawful and in which the answers stand. Where checksums tell payloads apart, changes and answers are
+-- one legal history.
 pub record IsJournal (stock : Stock) (start : Region) (parts : List Part) : Type 0 where
   pub each : ArePlayed stock parts
   pub lawful : Lawful start (past_of parts)
   pub answers : AreAnswered start (past_of parts) (answers_in (outcomes_of parts))
+  pub legal : IsAccepted start → Apart start (past_of parts) → Legal (base start) (changes_of (past_of parts)) (answers_in (outcomes_of parts))
 
 -- all lines are played, and the text is that of their outcomes, of their changes, and of the region left
 pub record IsPlayed (stock : Stock) (start : Region) (texts : List (List ℕ)) (e : Ending) : Type 0 where

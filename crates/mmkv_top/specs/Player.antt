@@ -1,10 +1,12 @@
 -- The player of a script, and how far it has come.
 use Rattle.std.specs.Prelude.{◌≡◌, ℕ, ◌<◌, ◌≤◌, ◌⊎◌, Bool, List, [], ◌∷◌, ◌++◌, Option, Some, None, Result, Ok, Err, length, option_map, replicate, codes, decimal, ⊤}
 use Rattle.std.specs.List.{AllByRecursion}
-use Rattle.change_log.specs.Settled.{AreEndedBy}
+use Rattle.change_log.specs.Settled.{AreEndedBy, AreOfCall, IsSettled}
+use Rattle.change_log.specs.declared.change.Change.{Change}
 use Rattle.change_log.specs.declared.call.Answer.{Answer}
 use Rattle.lock_rules.specs.Locks.{IsLeastAgainst}
 use Rattle.lock_rules.specs.declared.table.LockKind.{LockKind}
+use Rattle.opener.specs.Adds.{AreMade}
 use Rattle.opener.specs.Calls.{holds_after}
 use Rattle.opener.specs.Opener.{Tied, OnAnswer, IsAnswer}
 use Rattle.opener.specs.State.{OpenerState}
@@ -13,7 +15,8 @@ use Rattle.opener.specs.declared.calls.Step.TheVariants as step
 use Rattle.opener.specs.declared.work.Running.{Running as Call}
 use Rattle.opener.specs.declared.work.Work.{Work}
 use Rattle.opener.specs.declared.work.Work.TheVariants.{Idle, Runs}
-use Rattle.region_words.specs.Region.{Region, IsAccepted}
+use Rattle.region_words.specs.Apart.{Apart}
+use Rattle.region_words.specs.Region.{Region, IsAccepted, base}
 use Rattle.region_words.specs.Past.{changes_of, locks_after}
 use Rattle.region_words.specs.Local.{Seated, no_account, seat_state}
 use Rattle.region_words.specs.declared.event.Event.{Event}
@@ -55,8 +58,19 @@ CameTo past held (Some r) (step.Answered a) o = (o.work ≡ Idle) × (o.holds �
 CameTo past held (Some r) (step.Stopped why) o = (o.work ≡ Idle) × (o.holds ≡ held)
 CameTo past held _ _ o = ⊥
 
--- So many steps of opener 1 were made at most, the last of them came to this, and these are their events.
-pub record Stepped (start : Region) (past : List Event) (held : ℕ) (before : Option Running) (count : ℕ) (last : Step) (made : List Event) (o : OpenerState) (s : Seated) : Type 0 where
+-- what the call of a line has changed once the line's last step came to this
+abbrev pub AreMadeOn : Step → Work → List Change → Type 0
+AreMadeOn (step.Answered a) work made = AreOfCall 1 a.call a.now made
+AreMadeOn (step.Stopped why) work made = made ≡ []
+AreMadeOn _ work made = AreMade 1 work made
+
+-- the changes since this past are the call's, behind those that it had made before
+abbrev pub ChangesOn : Work → Step → Work → List Event → List Event → Type 0
+ChangesOn first last work past now =
+    (so_far : List Change) → AreMade 1 first so_far → (more : List Change) × (changes_of now ≡ changes_of past ++ more) × AreMadeOn last work (so_far ++ more)
+
+-- So many steps of opener 1, which was at this work, were made at most, the last of them came to this, and these are their events.
+pub record Stepped (start : Region) (past : List Event) (held : ℕ) (before : Option Running) (first : Work) (count : ℕ) (last : Step) (made : List Event) (o : OpenerState) (s : Seated) : Type 0 where
   pub few : length made ≤ count
   pub own : AreSteps 1 made
   pub idle : before ≡ None → made ≡ []
@@ -67,6 +81,7 @@ pub record Stepped (start : Region) (past : List Event) (held : ℕ) (before : O
   pub steady : s.region.failing.listed ≡ []
   pub answer : OnAnswer last (λ a. IsAnswer a s.region.start s.region.past)
   pub came : CameTo s.region.past held (option_map (going_on made) before) last o
+  pub changed : ChangesOn first last o.work past s.region.past
 
 -- the outcome of a line whose last step of opener 1 came to this, if it has one
 abbrev pub IsOutcomeAt : Step → Option Outcome → Type 0
@@ -95,6 +110,24 @@ pub record HasAnswered (start : Region) (past : List Event) (r : Option Running)
   pub within : AreEndedBy (length (changes_of past)) answers
   pub earlier : AreEarlier r answers
 
+-- the call that runs began no later than after these changes
+abbrev pub HasBegunBy : Work → List Change → Type 0
+HasBegunBy (Runs c stage) before = c.begun ≤ length before
+HasBegunBy _ before = ⊤
+
+-- all changes are settled by answers but those that the running call has made so far, and these are the last
+pub record IsSettledSoFar (work : Work) (start : Region) (past : List Event) (answers : List Answer) : Type 0 where
+  pub before : List Change
+  pub made : List Change
+  pub are : changes_of past ≡ before ++ made
+  pub settled : IsSettled 1 (base start) before answers
+  pub of_call : AreMade 1 work made
+  pub begun : HasBegunBy work before
+
+-- where checksums tell payloads apart they are
+abbrev pub Settles : Work → Region → List Event → List Answer → Type 0
+Settles work start past answers = IsAccepted start → Apart start past → IsSettledSoFar work start past answers
+
 -- the one opener after these lines
 pub record IsOpened (start : Region) (parts : List Part) (o : OpenerState) (s : Seated) : Type 0 where
   pub one : length (strategies parts) ≡ 1
@@ -104,6 +137,7 @@ pub record IsOpened (start : Region) (parts : List Part) (o : OpenerState) (s : 
   pub holds : o.holds ≡ holds_of 1 parts
   pub ours : AllByRecursion (λ e. e.who ≡ 1) (past_of parts)
   pub answered : HasAnswered start (past_of parts) (running 1 parts) (answers_in (outcomes_of parts))
+  pub settles : Settles o.work start (past_of parts) (answers_in (outcomes_of parts))
 
 -- no opener yet
 pub record IsUnopened (stock left : Stock) (parts : List Part) : Type 0 where

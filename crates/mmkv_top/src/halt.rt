@@ -1,6 +1,5 @@
 // Why a play ends before its script does.
 use expiring_map::Memory;
-use opener::NotBegun;
 use region_words::AdmitStop;
 
 /// Why a line ends the play.
@@ -23,17 +22,6 @@ impl From<Memory> for Halt {
 
     fn from(_: Memory) -> Halt {
         Halt::Memory
-    }
-}
-
-impl From<NotBegun> for Halt {
-    ghost use Rattle.std.specs.Prelude.{◌≡◌};
-    ghost use Rattle.mmkv_top.specs.Halting.{refused};
-
-    ghost from_gives = { λ _ h. h ≡ refused };
-
-    fn from(_: NotBegun) -> Halt {
-        Halt::Refused
     }
 }
 

@@ -119,7 +119,9 @@ impl Player {
         let Some(opener) = &mut self.opener else {
             return Err(Halt::Refused);
         };
-        opener.begin(&self.seat, call, now)?;
+        let Ok(()) = opener.begin(&self.seat, call, now) else {
+            return Err(Halt::Refused);
+        };
         Ok(())
     }
 
@@ -170,8 +172,8 @@ fn steps(opener: &mut Opener, seat: &mut LocalSeat, count: u32) -> Result<Step, 
     ensures tied { OnOk result (Tied opener.new (seat_state seat.new)) }
     ensures who { OnOk result (seat.new.who ≡ seat.old.who) }
     ensures stepped { IfOk result (λ last. (start : Region) (past : List Event) (held : ℕ) (before : Option Running) →
-        Stepped start past held before 0 Step.Going [] opener.old seat.old →
-        (made : List Event) × Stepped start past held before count last made opener.new seat.new) }
+        Stepped start past held before opener.old.work 0 Step.Going [] opener.old seat.old →
+        (made : List Event) × Stepped start past held before opener.old.work count last made opener.new seat.new) }
     ensures err { IfErr result IsNoRefusal }
 {
     for _ in 0..count {

@@ -13,5 +13,5 @@ abbrev pub invariant-loop : goal.invariant-loop
 invariant-loop g l =
     Tied l.opener (seat_state l.seat) × (l.seat.who ≡ l.fn.seat.who)
     × ((start : Region) (past : List Event) (held : ℕ) (before : Option Running) →
-    Stepped start past held before 0 Going [] l.fn.opener l.fn.seat →
-    (made : List Event) × Stepped start past held before l.counter Going made l.opener l.seat)
+    Stepped start past held before l.fn.opener.work 0 Going [] l.fn.opener l.fn.seat →
+    (made : List Event) × Stepped start past held before l.fn.opener.work l.counter Going made l.opener l.seat)
