@@ -3,6 +3,7 @@ mod Stepping
 mod Answering
 mod Settling
 mod Settled
+mod InTime
 mod LineEnds
 mod Opening
 mod Judged

@@ -1,9 +1,10 @@
 -- What the lines of a script make of the player.
-use Rattle.std.proofs.Common.{◌≡◌, ℕ, ◌≤◌, Bool, true, false, List, [], ◌∷◌, ◌++◌, length, refl, sym, ap, ◌∙◌, arith, subst, append-nil, eq-eqb}
+use Rattle.std.proofs.Common.{◌≡◌, ℕ, ◌+◌, ◌*◌, ◌≤◌, Bool, true, false, List, [], ◌∷◌, ◌++◌, length, refl, sym, ap, ◌∙◌, arith, subst, append-nil, eq-eqb}
 use Rattle.std.specs.Prelude.{Option, Some, None, Result, Ok, Err, OnOk, IfErr, IsTrue, option_map, option_and_then, not, nat_le, ◌&&◌, ◌==◌, if◌then◌else◌}
 use Rattle.std.specs.List.{AllByRecursion}
 use Rattle.change_log.specs.declared.call.Answer.{Answer}
 use Rattle.change_log.specs.declared.call.Call.{Call as Asked}
+use Rattle.opener.specs.Bound.{steps_left}
 use Rattle.opener.specs.Calls.{IsBuilt, holds_after}
 use Rattle.opener.specs.Adds.{AreMade}
 use Rattle.opener.specs.Begins.{Begins, call_refusal, refusal, refusal_at}
@@ -13,8 +14,9 @@ use Rattle.opener.specs.declared.calls.Step.{Step}
 use Rattle.opener.specs.declared.calls.Step.TheVariants as step
 use Rattle.opener.specs.declared.work.Work.{Work}
 use Rattle.opener.specs.declared.work.Work.TheVariants.{Idle, Ended, Runs}
-use Rattle.region_words.specs.Region.{Region}
-use Rattle.region_words.specs.Past.{changes_of, has_died}
+use Rattle.region_words.specs.Lawful.{Lawful}
+use Rattle.region_words.specs.Region.{Region, file_size}
+use Rattle.region_words.specs.Past.{changes_of, has_died, region_after}
 use Rattle.region_words.specs.Local.{Seated, seat_state, account_of}
 use Rattle.region_words.specs.declared.event.Event.{Event}
 use Rattle.script_lang.specs.declared.line.Line.{Line}
@@ -24,11 +26,12 @@ use Rattle.script_lang.specs.declared.outcome.Outcome.TheVariants.{Answered, Blo
 use Rattle.mmkv_top.specs.State.{PlayerState}
 use Rattle.mmkv_top.specs.declared.halt.Halt.{Halt}
 use Rattle.mmkv_top.specs.declared.halt.Halt.TheVariants as halt
-use Rattle.mmkv_top.specs.Parts.{Part, past_of, outcomes_of, answers_in, listed, strategies, lives, holds_of, held_after, Running, running, stepped, going_on}
+use Rattle.mmkv_top.specs.Parts.{Part, past_of, outcomes_of, answers_in, listed, strategies, lives, holds_of, held_after, asked_of, Running, running, stepped, going_on}
 use Rattle.mmkv_top.specs.Played.{Stock, AreSteps, IsOutcomeOf, IsStepLine}
 use Rattle.mmkv_top.specs.Play.{CanTake}
-use Rattle.mmkv_top.specs.Player.{ChangesOn, FollowsWork, CameTo, Settles, Stepped, IsOutcomeAt, IsOpened, OpenerAt, IsAt, TakesOne, Takes, HasHalted, HasAnswered, Notes, IsNoRefusal}
+use Rattle.mmkv_top.specs.Player.{ChangesOn, FollowsWork, CameTo, LeavesFewer, Settles, Stepped, IsOutcomeAt, IsOpened, OpenerAt, IsAt, TakesOne, Takes, HasHalted, HasAnswered, Notes, IsNoRefusal}
 use Rattle.mmkv_top.proofs.Answering.{goes_on, stops, answers_one}
+use Rattle.mmkv_top.proofs.InTime.{begin_bounded, line_bounded, opened_in_time}
 use Rattle.mmkv_top.proofs.Settled.{begin_settles, line_settles}
 use Rattle.mmkv_top.proofs.Stepping.{right_false, follows_alive}
 
@@ -105,6 +108,7 @@ first_step start parts o s who start_is past steady op =
       answer = tt;
       came = (subst (FollowsWork o.work) (sym (going_none (running 1 parts))) op.follows, op.holds);
       changed = λ so_far are. ([], ap changes_of past ∙ sym (append-nil (changes_of (past_of parts))), subst (AreMade 1 o.work) (sym (append-nil so_far)) are);
+      fewer = λ words fits. omega arith;
     }
 
 -- the opener lives
@@ -153,6 +157,11 @@ steps_taken stock left start parts p q o o' t count last outcome made who at op 
           (subst (λ x. OnAnswer last (λ a. IsAnswer a t.region.start x)) st.past_is st.answer))
           (subst (λ x. CameTo x (holds_of 1 parts) (option_map (going_on made) (running 1 parts)) last o') st.past_is st.came)
           (subst (ChangesOn o.work last o'.work (past_of parts)) st.past_is st.changed) noted);
+      bounded = line_bounded start (past_of parts) made (holds_of 1 parts) (asked_of 1 parts) count (running 1 parts) o.work last o' outcome op.follows
+          (subst (λ x. Lawful x (made ++ past_of parts)) st.start_is (subst (Lawful t.region.start) st.past_is tied.told.agrees.lawful))
+          (subst (λ x. CameTo x (holds_of 1 parts) (option_map (going_on made) (running 1 parts)) last o') st.past_is st.came) op.bounded
+          (subst (λ x. LeavesFewer last o.work o'.work count (file_size (region_after x (made ++ past_of parts)))) st.start_is
+          (subst (λ x. LeavesFewer last o.work o'.work count (file_size (region_after t.region.start x))) st.past_is st.fewer)) noted;
     } in (
       made,
       outcome,
@@ -162,6 +171,7 @@ steps_taken stock left start parts p q o o' t count last outcome made who at op 
         outcomes = outcomes ∙ ap (λ x. x ++ listed outcome) at.outcomes;
         steady = ap (λ (s : Seated). s.region.failing.listed) seat ∙ st.steady;
         each = (at.each, (lives_one start parts o p.seat who at.past op, is_step_line (past_of parts) made count (running 1 parts) outcome st.few st.own st.idle ends.ends));
+        in_time = (at.in_time, opened_in_time start (record { line = Some (StepLine 1 count); made = made; outcome = outcome } ∷ parts) o' t opened);
         opener = subst (λ s. OpenerAt stock left start (record { line = Some (StepLine 1 count); made = made; outcome = outcome } ∷ parts) s q.opener) (sym seat)
             (subst (OpenerAt stock left start (record { line = Some (StepLine 1 count); made = made; outcome = outcome } ∷ parts) t) (sym opener) opened);
       },
@@ -218,9 +228,9 @@ idle_where (Runs c at) call holds r follows none = absurd cc
 -- a call was begun
 pub begin_taken : (stock left : Stock) (start : Region) (parts : List Part) (p q : PlayerState) (o o' : OpenerState) (who now : ℕ) (call : Asked) →
     who ≡ 1 → IsBuilt call → p.seat.who ≡ 1 → p.opener ≡ Some o → q.seat ≡ p.seat → q.opener ≡ Some o' → q.outcomes ≡ p.outcomes → Tied o' (seat_state p.seat) →
-    refusal o call ≡ None → Begins call now (length (changes_of p.seat.region.past)) o o' →
+    refusal o call ≡ None → ((words : ℕ) → steps_left words o'.work ≤ 6 * words + 100) → Begins call now (length (changes_of p.seat.region.past)) o o' →
     IsAt stock left start parts p → TakesOne stock left start parts (Some (Begin who now call)) q
-begin_taken stock left start parts p q o o' who now call one built seat is seat_is opener outcomes tied first begins at =
+begin_taken stock left start parts p q o o' who now call one built seat is seat_is opener outcomes tied first bound begins at =
     subst (λ w. TakesOne stock left start parts (Some (Begin w now call)) q) (sym one) (
       [],
       None,
@@ -230,6 +240,7 @@ begin_taken stock left start parts p q o o' who now call one built seat is seat_
         outcomes = outcomes ∙ at.outcomes ∙ sym (append-nil (outcomes_of parts));
         steady = ap (λ (s : Seated). s.region.failing.listed) seat_is ∙ at.steady;
         each = (at.each, (record { alive = lives_one start parts o p.seat seat at.past op; idle = free.0; asks = subst (λ h. call_refusal call h ≡ None) op.holds free.1 }, (refl, refl)));
+        in_time = (at.in_time, opened_in_time start grown o' p.seat opened);
         opener = subst (λ s. OpenerAt stock left start grown s q.opener) (sym seat_is) (subst (OpenerAt stock left start grown p.seat) (sym opener) opened);
       },
     )
@@ -255,13 +266,14 @@ begin_taken stock left start parts p q o o' who now call one built seat is seat_
           (record { are = op.answered.are; within = op.answered.within; earlier = op.answered.within });
       settles = subst (λ xs. Settles o'.work start (past_of parts) (answers_in xs)) (sym (append-nil (outcomes_of parts)))
           (begin_settles start (past_of parts) (answers_in (outcomes_of parts)) call now (length (changes_of p.seat.region.past)) o o' (ap (λ x. length (changes_of x)) at.past) first begins op.settles);
+      bounded = begin_bounded call now (length (changes_of p.seat.region.past)) (file_size (region_after start (past_of parts))) o o' begins bound;
     }
 
 -- the same by the seat that the call was begun at
 pub begin_taken_at : (stock left : Stock) (start : Region) (parts : List Part) (p q : PlayerState) (o o' : OpenerState) (s : Seated) (who now : ℕ) (call : Asked) →
     s ≡ p.seat → who ≡ 1 → IsBuilt call → p.seat.who ≡ 1 → p.opener ≡ Some o → q.seat ≡ p.seat → q.opener ≡ Some o' → q.outcomes ≡ p.outcomes → Tied o' (seat_state s) →
-    refusal o call ≡ None → Begins call now (length (changes_of s.region.past)) o o' →
+    refusal o call ≡ None → ((words : ℕ) → steps_left words o'.work ≤ 6 * words + 100) → Begins call now (length (changes_of s.region.past)) o o' →
     IsAt stock left start parts p → TakesOne stock left start parts (Some (Begin who now call)) q
-begin_taken_at stock left start parts p q o o' s who now call here one built seat is seat_is opener outcomes tied first begins at =
+begin_taken_at stock left start parts p q o o' s who now call here one built seat is seat_is opener outcomes tied first bound begins at =
     subst (λ (x : Seated). Tied o' (seat_state x) → Begins call now (length (changes_of x.region.past)) o o' → TakesOne stock left start parts (Some (Begin who now call)) q) (sym here)
-    (λ tied begins. begin_taken stock left start parts p q o o' who now call one built seat is seat_is opener outcomes tied first begins at) tied begins
+    (λ tied begins. begin_taken stock left start parts p q o o' who now call one built seat is seat_is opener outcomes tied first bound begins at) tied begins

@@ -7,7 +7,8 @@ use Rattle.handlers.specs.declared.handler.Strategy.TheVariants.{Discard, Recove
 use Rattle.opener.specs.Opener.{Tied}
 use Rattle.opener.specs.State.{OpenerState}
 use Rattle.opener.specs.declared.work.Work.TheVariants.{Idle}
-use Rattle.region_words.specs.Region.{Region, IsAccepted}
+use Rattle.region_words.specs.Past.{region_after}
+use Rattle.region_words.specs.Region.{Region, IsAccepted, file_size}
 use Rattle.region_words.specs.Local.{Seated, seat_state, lock_after}
 use Rattle.lock_rules.specs.Locks.{unlocked}
 use Rattle.lock_rules.specs.declared.table.LockKind.{LockKind}
@@ -19,11 +20,12 @@ use Rattle.region_words.specs.declared.event.Event.{Event}
 use Rattle.script_lang.specs.declared.line.Line.{Line}
 use Rattle.script_lang.specs.declared.line.Line.TheVariants.{Open}
 use Rattle.mmkv_top.specs.State.{PlayerState}
-use Rattle.mmkv_top.specs.Parts.{Part, past_of, outcomes_of, answers_in, strategies, running, going_on}
+use Rattle.mmkv_top.specs.Parts.{Part, past_of, outcomes_of, answers_in, strategies, asked_of, running, going_on}
 use Rattle.mmkv_top.specs.Played.{Stock, stocked, drawn}
-use Rattle.mmkv_top.specs.Player.{IsOpened, IsUnopened, OpenerAt, IsAt, IsReady, IsReadyFor, TakesOne, FollowsWork, HasAnswered, Settles}
+use Rattle.mmkv_top.specs.Player.{IsOpened, IsUnopened, OpenerAt, IsAt, IsReady, IsReadyFor, TakesOne, FollowsWork, HasAnswered, IsBounded, Settles}
 use Rattle.mmkv_top.proofs.Answering.{nothing_answered}
 use Rattle.mmkv_top.proofs.LineEnds.{going_none}
+use Rattle.mmkv_top.proofs.InTime.{in_time_at, opened_in_time}
 use Rattle.mmkv_top.proofs.Settled.{nothing_to_settle}
 
 abbrev new_opener : ℕ → OpenerState
@@ -74,6 +76,7 @@ open_taken stock left left' start parts p q o who strategy none had begins past 
     outcomes = outcomes ∙ at.outcomes ∙ sym (append-nil (outcomes_of parts));
     steady = listed ∙ at.steady;
     each = (at.each, ((few, enough), (refl, refl)));
+    in_time = (at.in_time, opened_in_time start grown o q.seat opened);
     opener = subst (OpenerAt stock left' start grown q.seat) (sym opener) opened;
   },
 )
@@ -105,6 +108,7 @@ open_taken stock left left' start parts p q o who strategy none had begins past 
       settles = subst (λ (x : OpenerState). Settles x.work start (past_of parts) (answers_in (outcomes_of parts ++ []))) (sym new)
           (subst (λ xs. Settles Idle start (past_of parts) (answers_in xs)) (sym (append-nil (outcomes_of parts) ∙ un.outcomes))
           (subst (λ x. Settles Idle start x []) (sym un.past) (nothing_to_settle start)));
+      bounded = subst (λ (x : OpenerState). IsBounded x.work (asked_of 1 parts) (file_size (region_after start (past_of parts)))) (sym new) tt;
     }
 
 abbrev nothing : Part
@@ -132,6 +136,7 @@ grow_nothing stock left start parts s (Some o) op =
       answered = subst (λ xs. HasAnswered start (past_of parts) (option_map (going_on []) (running 1 parts)) (answers_in xs)) (sym (append-nil (outcomes_of parts)))
           (subst (λ r. HasAnswered start (past_of parts) r (answers_in (outcomes_of parts))) (sym (going_none (running 1 parts))) op.answered);
       settles = subst (λ xs. Settles o.work start (past_of parts) (answers_in xs)) (sym (append-nil (outcomes_of parts))) op.settles;
+      bounded = op.bounded;
     }
 
 -- a line that names nothing
@@ -147,6 +152,7 @@ nothing_taken stock left start parts p line none at =
         outcomes = at.outcomes ∙ sym (append-nil (outcomes_of parts));
         steady = at.steady;
         each = (at.each, (refl, refl));
+        in_time = (at.in_time, in_time_at stock left start (nothing ∷ parts) p.seat p.opener (grow_nothing stock left start parts p.seat p.opener at.opener));
         opener = grow_nothing stock left start parts p.seat p.opener at.opener;
       },
     )

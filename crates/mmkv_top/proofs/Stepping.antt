@@ -9,6 +9,7 @@ use Rattle.change_log.specs.declared.change.Change.{Change}
 use Rattle.lock_rules.specs.Locks.{IsLeastAgainst}
 use Rattle.opener.specs.Calls.{holds_after}
 use Rattle.opener.specs.Adds.{AddsTo, AreMade, AreMadeBy}
+use Rattle.opener.specs.Bound.{Falls, steps_left}
 use Rattle.opener.specs.Writes.{commits_of}
 use Rattle.opener.specs.Opener.{Tied, MakesOne, KeepsWork, KeepsCall, HasCause, HasStopped, OnAnswer, IsAnswer, IsAnswerOf, RunsOn, IsAt, IsSeen, stop_found, is_ended}
 use Rattle.opener.specs.State.{OpenerState}
@@ -22,8 +23,9 @@ use Rattle.opener.specs.declared.work.Stage.{Stage}
 use Rattle.opener.specs.declared.work.Stage.TheVariants as stage
 use Rattle.opener.specs.declared.work.Work.{Work}
 use Rattle.opener.specs.declared.work.Work.TheVariants.{Idle, Ended, Runs}
-use Rattle.region_words.specs.Region.{Region}
-use Rattle.region_words.specs.Past.{change_of, changes_of, locks_after, has_died, is_death}
+use Rattle.region_words.specs.Lawful.{Lawful}
+use Rattle.region_words.specs.Region.{Region, file_size}
+use Rattle.region_words.specs.Past.{change_of, changes_of, region_after, locks_after, has_died, is_death}
 use Rattle.region_words.specs.Local.{Seated, seat_state, account_of}
 use Rattle.region_words.specs.Share.{Grows, ShareState, made_by}
 use Rattle.region_words.specs.Told.{History, OnBoth, OnTold}
@@ -31,7 +33,8 @@ use Rattle.region_words.specs.declared.event.Event.{Event}
 use Rattle.region_words.specs.declared.event.What.{What}
 use Rattle.mmkv_top.specs.Parts.{Running, going_on}
 use Rattle.mmkv_top.specs.Played.{AreSteps, IsAnsweredBy}
-use Rattle.mmkv_top.specs.Player.{AreMadeOn, ChangesOn, Follows, FollowsWork, CameTo, Stepped}
+use Rattle.region_words.proofs.StaysFirm.{file_grows}
+use Rattle.mmkv_top.specs.Player.{AreMadeOn, ChangesOn, LeavesFewer, Follows, FollowsWork, CameTo, Stepped}
 
 -- what a call on the seat made
 record Moved (s t : Seated) : Type 0 where
@@ -280,15 +283,41 @@ module _ (s t : Seated) (makes : MakesOne (seat_state s) (seat_state t)) (steady
         subst (AreMadeOn result o'.work) (append_assoc so_far now.0 (commits_of adds.own)) (made_on o o' c at result ((so_far ++ now.0) ++ commits_of adds.own) one is keeps cause made),
       )
 
+-- one step fewer is left after each that goes on
+step_fewer : (s t : Seated) → MakesOne (seat_state s) (seat_state t) → (first work after : Work) (n : ℕ) (result : Step) → Lawful t.region.start t.region.past →
+    Falls work result after (seat_state t) → LeavesFewer step.Going first work n (file_size (region_after s.region.start s.region.past)) →
+    LeavesFewer result first after (n + 1) (file_size (region_after t.region.start t.region.past))
+step_fewer s t makes first work after n result lawful falls fewer = go result falls
+  where
+    size_now : ℕ
+    size_now = file_size (region_after t.region.start t.region.past)
+
+    grows : file_size (region_after s.region.start s.region.past) ≤ size_now
+    grows =
+        let m = moved s t makes in
+        subst (λ x. file_size (region_after s.region.start s.region.past) ≤ file_size (region_after x t.region.past)) (sym m.start)
+        (subst (λ p. file_size (region_after s.region.start s.region.past) ≤ file_size (region_after s.region.start p)) (sym m.past)
+        (file_grows s.region.start (made_by s.who m.own) s.region.past (subst (Lawful s.region.start) m.past (subst (λ x. Lawful x t.region.past) m.start lawful))))
+
+    go : (result : Step) → Falls work result after (seat_state t) → LeavesFewer result first after (n + 1) size_now
+    go step.Going falls = λ words fits.
+        let less = falls.falls words (omega (arith, falls.met, fits)) in
+        omega (arith, less, fewer words (omega (arith, grows, fits)))
+    go (step.Blocked holder) same = λ words fits. omega (arith, ap (steps_left words) same, fewer words (omega (arith, grows, fits)))
+    go step.Idle falls = tt
+    go step.Again falls = tt
+    go (step.Answered a) falls = tt
+    go (step.Stopped why) falls = tt
+
 -- one step more
 pub one_more : (start : Region) (past : List Event) (held : ℕ) (before : Option Running) (first : Work) (n : ℕ) (made : List Event)
     (o o' : OpenerState) (s t : Seated) (result : Step) →
     Stepped start past held before first n step.Going made o s → Tied o (seat_state s) → Tied o' (seat_state t) →
     MakesOne (seat_state s) (seat_state t) → AddsTo o.who o.work result o'.work (seat_state s) (seat_state t) → KeepsWork o result o' →
-    HasCause o.work result o'.work (seat_state s) (seat_state t) →
+    HasCause o.work result o'.work (seat_state s) (seat_state t) → Falls o.work result o'.work (seat_state t) →
     OnAnswer result (λ a. OnTold (seat_state t).told (λ h. IsAnswer a h.start h.past)) →
     (more : List Event) × Stepped start past held before first (n + 1) result more o' t
-one_more start past held before first n made o o' s t result st tied tied' makes adds keeps cause answer =
+one_more start past held before first n made o o' s t result st tied tied' makes adds keeps cause falls answer =
     let m = moved s t makes in
     let own = made_by 1 m.own in
     let grown : t.region.past ≡ own ++ s.region.past = m.past ∙ ap (λ w. made_by w m.own ++ s.region.past) st.seat in
@@ -312,6 +341,7 @@ one_more start past held before first n made o o' s t result st tied tied' makes
         answer = answer;
         came = subst (λ r. CameTo t.region.past held r result o') (going_twice own made before) came;
         changed = step_changed s t makes st.steady past first o o' o.work result st.who tied.at (subst (λ w. AddsTo w o.work result o'.work (seat_state s) (seat_state t)) st.who adds) keeps cause st.changed;
+        fewer = step_fewer s t makes first o.work o'.work n result tied'.told.agrees.lawful falls st.fewer;
       },
     )
 
@@ -319,8 +349,8 @@ pub seat_stays : (s t : Seated) → MakesOne (seat_state s) (seat_state t) → t
 seat_stays s t makes = (moved s t makes).who
 
 pub at_most : (start : Region) (past : List Event) (held : ℕ) (before : Option Running) (first : Work) (n count : ℕ) (result : Step) (made : List Event) (o : OpenerState) (s : Seated) →
-    n ≤ count → Stepped start past held before first n result made o s → Stepped start past held before first count result made o s
-at_most start past held before first n count result made o s below st =
+    n ≤ count → (result ≡ step.Going → n ≡ count) → Stepped start past held before first n result made o s → Stepped start past held before first count result made o s
+at_most start past held before first n count result made o s below all st =
     record {
       few = omega (arith, st.few, below);
       own = st.own;
@@ -333,18 +363,30 @@ at_most start past held before first n count result made o s below st =
       answer = st.answer;
       came = st.came;
       changed = st.changed;
+      fewer = go result all st.fewer;
     }
+  where
+    size_now : ℕ
+    size_now = file_size (region_after s.region.start s.region.past)
+
+    go : (last : Step) → (last ≡ step.Going → n ≡ count) → LeavesFewer last first o.work n size_now → LeavesFewer last first o.work count size_now
+    go step.Going all fewer = λ words fits. omega (arith, fewer words fits, all refl)
+    go (step.Blocked holder) all fewer = fewer
+    go step.Idle all fewer = tt
+    go step.Again all fewer = tt
+    go (step.Answered a) all fewer = tt
+    go (step.Stopped why) all fewer = tt
 
 -- one step more on the way
-pub step_more : (count n : ℕ) (o1 : OpenerState) (s1 : Seated) (o o' : OpenerState) (s t : Seated) (result : Step) → n + 1 ≤ count →
+pub step_more : (count n : ℕ) (o1 : OpenerState) (s1 : Seated) (o o' : OpenerState) (s t : Seated) (result : Step) → n + 1 ≤ count → (result ≡ step.Going → n + 1 ≡ count) →
     ((start : Region) (past : List Event) (held : ℕ) (before : Option Running) → Stepped start past held before o1.work 0 step.Going [] o1 s1 →
     (made : List Event) × Stepped start past held before o1.work n step.Going made o s) → Tied o (seat_state s) → Tied o' (seat_state t) →
     MakesOne (seat_state s) (seat_state t) → AddsTo o.who o.work result o'.work (seat_state s) (seat_state t) → KeepsWork o result o' →
-    HasCause o.work result o'.work (seat_state s) (seat_state t) →
+    HasCause o.work result o'.work (seat_state s) (seat_state t) → Falls o.work result o'.work (seat_state t) →
     OnAnswer result (λ a. OnTold (seat_state t).told (λ h. IsAnswer a h.start h.past)) →
     (start : Region) (past : List Event) (held : ℕ) (before : Option Running) → Stepped start past held before o1.work 0 step.Going [] o1 s1 →
     (made : List Event) × Stepped start past held before o1.work count result made o' t
-step_more count n o1 s1 o o' s t result below so_far tied tied' makes adds keeps cause answer start past held before first =
+step_more count n o1 s1 o o' s t result below all so_far tied tied' makes adds keeps cause falls answer start past held before first =
     let now = so_far start past held before first in
-    let next = one_more start past held before o1.work n now.0 o o' s t result now.1 tied tied' makes adds keeps cause answer in
-    (next.0, at_most start past held before o1.work (n + 1) count result next.0 o' t below next.1)
+    let next = one_more start past held before o1.work n now.0 o o' s t result now.1 tied tied' makes adds keeps cause falls answer in
+    (next.0, at_most start past held before o1.work (n + 1) count result next.0 o' t below all next.1)

@@ -1,5 +1,5 @@
 -- What the lines of a script made so far. Parts and events stand with the latest first.
-use Rattle.std.specs.Prelude.{ℕ, Bool, List, [], ◌∷◌, ◌++◌, Option, Some, None, length, not, option_map, option_and_then, nat_le, ◌==◌, ◌&&◌, if◌then◌else◌}
+use Rattle.std.specs.Prelude.{ℕ, ◌+◌, Bool, List, [], ◌∷◌, ◌++◌, Option, Some, None, length, not, option_map, option_and_then, nat_le, ◌==◌, ◌&&◌, if◌then◌else◌}
 use Rattle.change_log.specs.declared.call.Answer.{Answer}
 use Rattle.change_log.specs.declared.call.Call.{Call}
 use Rattle.opener.specs.Calls.{holds_after}
@@ -8,7 +8,7 @@ use Rattle.region_words.specs.declared.event.Event.{Event}
 use Rattle.script_lang.specs.declared.line.Line.{Line}
 use Rattle.script_lang.specs.declared.line.Line.TheVariants.{Open, Begin, Step, Die}
 use Rattle.script_lang.specs.declared.outcome.Outcome.{Outcome}
-use Rattle.script_lang.specs.declared.outcome.Outcome.TheVariants.{Answered, Stopped}
+use Rattle.script_lang.specs.declared.outcome.Outcome.TheVariants.{Answered, Blocked, Stopped}
 use Rattle.handlers.specs.declared.handler.Strategy.{Strategy}
 
 -- what a line names, if anything, the events that it made, and what it ended with
@@ -95,3 +95,14 @@ going_on made c = record c { since = made ++ c.since }
 abbrev pub running : ℕ → List Part → Option Running
 running who [] = None
 running who (p ∷ parts) = running_after p.line p.outcome who (past_of parts) (option_map (going_on p.made) (running who parts))
+
+-- the steps that the lines asked of an opener's call, since it began or was last blocked, after one line more
+abbrev pub asked_after : Option Line → Option Outcome → ℕ → ℕ → ℕ
+asked_after (Some (Begin maker now call)) outcome who asked = if maker == who then 0 else asked
+asked_after (Some (Step maker count)) (Some (Blocked w holder)) who asked = if maker == who then 0 else asked
+asked_after (Some (Step maker count)) outcome who asked = if maker == who then asked + count else asked
+asked_after _ outcome who asked = asked
+
+abbrev pub asked_of : ℕ → List Part → ℕ
+asked_of who [] = 0
+asked_of who (p ∷ parts) = asked_after p.line p.outcome who (asked_of who parts)

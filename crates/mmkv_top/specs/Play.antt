@@ -1,11 +1,11 @@
 -- What `play` ends with, by the region brought and the bytes of the input.
-use Rattle.std.specs.Prelude.{◌≡◌, ◌≢◌, ℕ, ◌+◌, ◌-◌, ◌<◌, ◌≤◌, ◌⊎◌, Bool, true, false, List, [], ◌∷◌, ◌++◌, Option, Some, None, length, take, map, All, AllPairs, nat_eq, slice_index, if◌then◌else◌, codes, decimal, ⊤}
+use Rattle.std.specs.Prelude.{◌≡◌, ◌≢◌, ℕ, ◌+◌, ◌-◌, ◌*◌, ◌<◌, ◌≤◌, ◌⊎◌, Bool, true, false, List, [], ◌∷◌, ◌++◌, Option, Some, None, length, take, map, All, AllPairs, nat_eq, slice_index, if◌then◌else◌, codes, decimal, ⊤}
 use Rattle.std.specs.List.{ends_with}
 use Rattle.bstr.specs.Text.{lines_of as cut_lines}
 use Rattle.change_log.specs.History.{IsPlaced, IsMade, Legal}
 use Rattle.change_log.specs.declared.call.Answer.{Answer}
 use Rattle.opener.specs.Calls.{IsBuilt}
-use Rattle.region_words.specs.Region.{Region, IsAccepted, base}
+use Rattle.region_words.specs.Region.{Region, IsAccepted, base, file_size}
 use Rattle.region_words.specs.Past.{region_after, changes_of}
 use Rattle.region_words.specs.Apart.{Apart}
 use Rattle.region_words.specs.Lawful.{Lawful}
@@ -18,7 +18,7 @@ use Rattle.script_lang.specs.Texts.{line, run_text}
 use Rattle.mmkv_top.specs.declared.limits.TheConstants.{LARGEST_COUNT, LARGEST_LINE}
 use Rattle.mmkv_top.specs.declared.ending.Ending.{Ending}
 use Rattle.mmkv_top.specs.Ending.{ending}
-use Rattle.mmkv_top.specs.Parts.{Part, lines_of, past_of, outcomes_of, answers_in, strategies}
+use Rattle.mmkv_top.specs.Parts.{Part, lines_of, past_of, outcomes_of, answers_in, strategies, Running, running, asked_of}
 use Rattle.mmkv_top.specs.Played.{Stock, MayCome, ArePlayed}
 
 -- a line without its line feed
@@ -64,11 +64,23 @@ pub record AreAnswered (start : Region) (past : List Event) (answers : List Answ
   pub made : All (IsMade (base start) (changes_of past)) answers
   pub placed : IsAccepted start → Apart start past → All (IsPlaced (base start) (changes_of past)) answers
 
+-- no call goes on for ever: one that runs after these lines was asked for fewer steps than six for each word of four bytes of its data file,
+-- and a hundred
+abbrev pub IsInTime : Region → List Part → Type 0
+IsInTime start parts =
+    (c : Running) (words : ℕ) → running 1 parts ≡ Some c → file_size (region_after start (past_of parts)) ≤ 4 * words → asked_of 1 parts < 6 * words + 100
+
+-- after each line
+abbrev pub AreInTime : Region → List Part → Type 0
+AreInTime start [] = ⊤
+AreInTime start (p ∷ parts) = AreInTime start parts × IsInTime start (p ∷ parts)
+
 -- A journal of these parts, which is lawful and in which the answers stand. Where checksums tell payloads apart, changes and answers are
 -- one legal history.
 pub record IsJournal (stock : Stock) (start : Region) (parts : List Part) : Type 0 where
   pub each : ArePlayed stock parts
   pub lawful : Lawful start (past_of parts)
+  pub in_time : AreInTime start parts
   pub answers : AreAnswered start (past_of parts) (answers_in (outcomes_of parts))
   pub legal : IsAccepted start → Apart start (past_of parts) → Legal (base start) (changes_of (past_of parts)) (answers_in (outcomes_of parts))
 

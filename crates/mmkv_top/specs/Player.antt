@@ -1,5 +1,5 @@
 -- The player of a script, and how far it has come.
-use Rattle.std.specs.Prelude.{◌≡◌, ℕ, ◌<◌, ◌≤◌, ◌⊎◌, Bool, List, [], ◌∷◌, ◌++◌, Option, Some, None, Result, Ok, Err, length, option_map, replicate, codes, decimal, ⊤}
+use Rattle.std.specs.Prelude.{◌≡◌, ℕ, ◌*◌, ◌+◌, ◌<◌, ◌≤◌, ◌⊎◌, Bool, List, [], ◌∷◌, ◌++◌, Option, Some, None, Result, Ok, Err, length, option_map, replicate, codes, decimal, ⊤}
 use Rattle.std.specs.List.{AllByRecursion}
 use Rattle.change_log.specs.Settled.{AreEndedBy, AreOfCall, IsSettled}
 use Rattle.change_log.specs.declared.change.Change.{Change}
@@ -7,6 +7,7 @@ use Rattle.change_log.specs.declared.call.Answer.{Answer}
 use Rattle.lock_rules.specs.Locks.{IsLeastAgainst}
 use Rattle.lock_rules.specs.declared.table.LockKind.{LockKind}
 use Rattle.opener.specs.Adds.{AreMade}
+use Rattle.opener.specs.Bound.{steps_left}
 use Rattle.opener.specs.Calls.{holds_after}
 use Rattle.opener.specs.Opener.{Tied, OnAnswer, IsAnswer}
 use Rattle.opener.specs.State.{OpenerState}
@@ -16,8 +17,8 @@ use Rattle.opener.specs.declared.work.Running.{Running as Call}
 use Rattle.opener.specs.declared.work.Work.{Work}
 use Rattle.opener.specs.declared.work.Work.TheVariants.{Idle, Runs}
 use Rattle.region_words.specs.Apart.{Apart}
-use Rattle.region_words.specs.Region.{Region, IsAccepted, base}
-use Rattle.region_words.specs.Past.{changes_of, locks_after}
+use Rattle.region_words.specs.Region.{Region, IsAccepted, base, file_size}
+use Rattle.region_words.specs.Past.{changes_of, locks_after, region_after}
 use Rattle.region_words.specs.Local.{Seated, no_account, seat_state}
 use Rattle.region_words.specs.declared.event.Event.{Event}
 use Rattle.script_lang.specs.Lines.{IsLine}
@@ -32,9 +33,9 @@ use Rattle.mmkv_top.specs.State.{PlayerState}
 use Rattle.mmkv_top.specs.Ending.{ending}
 use Rattle.mmkv_top.specs.declared.ending.Ending.{Ending}
 use Rattle.script_lang.specs.Texts.{line as text_line}
-use Rattle.mmkv_top.specs.Parts.{Part, lines_of, past_of, outcomes_of, answers_in, listed, strategies, holds_of, Running, running, going_on}
+use Rattle.mmkv_top.specs.Parts.{Part, lines_of, past_of, outcomes_of, answers_in, listed, strategies, holds_of, asked_of, Running, running, going_on}
 use Rattle.mmkv_top.specs.Played.{Stock, ArePlayed, AreSteps, IsAnsweredBy, IsPrinted}
-use Rattle.mmkv_top.specs.Play.{AreAnswered, IsWithin, AreLines, CanTake, IsFirstRefused, IsHalted, IsRefusedIn, not_yet}
+use Rattle.mmkv_top.specs.Play.{AreAnswered, AreInTime, IsWithin, AreLines, CanTake, IsFirstRefused, IsHalted, IsRefusedIn, not_yet}
 
 -- the opener runs this call
 pub record Follows (c : Call) (r : Running) : Type 0 where
@@ -69,6 +70,12 @@ abbrev pub ChangesOn : Work → Step → Work → List Event → List Event → 
 ChangesOn first last work past now =
     (so_far : List Change) → AreMade 1 first so_far → (more : List Change) × (changes_of now ≡ changes_of past ++ more) × AreMadeOn last work (so_far ++ more)
 
+-- after so many steps of a line so many fewer are left to the call, within a data file of no fewer words than it has
+abbrev pub LeavesFewer : Step → Work → Work → ℕ → ℕ → Type 0
+LeavesFewer step.Going first work count size = (words : ℕ) → size ≤ 4 * words → steps_left words work + count ≤ steps_left words first
+LeavesFewer (step.Blocked holder) first work count size = (words : ℕ) → size ≤ 4 * words → steps_left words work ≤ steps_left words first
+LeavesFewer _ first work count size = ⊤
+
 -- So many steps of opener 1, which was at this work, were made at most, the last of them came to this, and these are their events.
 pub record Stepped (start : Region) (past : List Event) (held : ℕ) (before : Option Running) (first : Work) (count : ℕ) (last : Step) (made : List Event) (o : OpenerState) (s : Seated) : Type 0 where
   pub few : length made ≤ count
@@ -82,6 +89,7 @@ pub record Stepped (start : Region) (past : List Event) (held : ℕ) (before : O
   pub answer : OnAnswer last (λ a. IsAnswer a s.region.start s.region.past)
   pub came : CameTo s.region.past held (option_map (going_on made) before) last o
   pub changed : ChangesOn first last o.work past s.region.past
+  pub fewer : LeavesFewer last first o.work count (file_size (region_after s.region.start s.region.past))
 
 -- the outcome of a line whose last step of opener 1 came to this, if it has one
 abbrev pub IsOutcomeAt : Step → Option Outcome → Type 0
@@ -128,6 +136,11 @@ pub record IsSettledSoFar (work : Work) (start : Region) (past : List Event) (an
 abbrev pub Settles : Work → Region → List Event → List Answer → Type 0
 Settles work start past answers = IsAccepted start → Apart start past → IsSettledSoFar work start past answers
 
+-- the steps left to a call that runs, and those that were asked of it, are at most six a word and a hundred
+abbrev pub IsBounded : Work → ℕ → ℕ → Type 0
+IsBounded (Runs c stage) asked size = (words : ℕ) → size ≤ 4 * words → steps_left words (Runs c stage) + asked ≤ 6 * words + 100
+IsBounded _ asked size = ⊤
+
 -- the one opener after these lines
 pub record IsOpened (start : Region) (parts : List Part) (o : OpenerState) (s : Seated) : Type 0 where
   pub one : length (strategies parts) ≡ 1
@@ -138,6 +151,7 @@ pub record IsOpened (start : Region) (parts : List Part) (o : OpenerState) (s : 
   pub ours : AllByRecursion (λ e. e.who ≡ 1) (past_of parts)
   pub answered : HasAnswered start (past_of parts) (running 1 parts) (answers_in (outcomes_of parts))
   pub settles : Settles o.work start (past_of parts) (answers_in (outcomes_of parts))
+  pub bounded : IsBounded o.work (asked_of 1 parts) (file_size (region_after start (past_of parts)))
 
 -- no opener yet
 pub record IsUnopened (stock left : Stock) (parts : List Part) : Type 0 where
@@ -159,6 +173,7 @@ pub record IsAt (stock left : Stock) (start : Region) (parts : List Part) (p : P
   pub outcomes : p.outcomes ≡ outcomes_of parts
   pub steady : p.seat.region.failing.listed ≡ []
   pub each : ArePlayed stock parts
+  pub in_time : AreInTime start parts
   pub opener : OpenerAt stock left start parts p.seat p.opener
 
 -- the opener is tied to the seat, or nothing has happened there yet, and the region it starts from is accepted

@@ -10,7 +10,7 @@ use region_words::is_id;
 pub(crate) enum Command<'a> {
     /// Writes the text of a store's region.
     Dump { id: &'a [u8] },
-    /// Plays the script of the input on a fresh store.
+    /// Plays the script of the input at a copy of a store.
     Play { id: &'a [u8] },
 }
 
