@@ -24,6 +24,7 @@ journal_of stock left start parts p ready at = go p.opener at.opener
       each = at.each;
       lawful = subst (Lawful start) (sym un.past) tt;
       in_time = at.in_time;
+      reasoned = at.reasoned;
       answers = subst (λ x. AreAnswered start x (answers_in (outcomes_of parts))) (sym un.past)
           (subst (λ x. AreAnswered start [] (answers_in x)) (sym un.outcomes) (nothing_answered start).are);
       legal = λ accepted apart. subst (λ x. Legal (base start) (changes_of x) (answers_in (outcomes_of parts))) (sym un.past)
@@ -35,6 +36,7 @@ journal_of stock left start parts p ready at = go p.opener at.opener
           each = at.each;
           lawful = lawful;
           in_time = at.in_time;
+          reasoned = at.reasoned;
           answers = op.answered.are;
           legal = λ accepted apart. so_far_legal o.work start (past_of parts) (answers_in (outcomes_of parts)) op.ours lawful (op.settles accepted apart);
         }

@@ -1,4 +1,5 @@
 mod Dumped
+mod Reasoning
 mod Stepping
 mod Answering
 mod Settling

@@ -29,7 +29,8 @@ use Rattle.mmkv_top.specs.declared.halt.Halt.TheVariants as halt
 use Rattle.mmkv_top.specs.Parts.{Part, past_of, outcomes_of, answers_in, listed, strategies, lives, holds_of, held_after, asked_of, Running, running, stepped, going_on}
 use Rattle.mmkv_top.specs.Played.{Stock, AreSteps, IsOutcomeOf, IsStepLine}
 use Rattle.mmkv_top.specs.Play.{CanTake}
-use Rattle.mmkv_top.specs.Player.{ChangesOn, FollowsWork, CameTo, LeavesFewer, Settles, Stepped, IsOutcomeAt, IsOpened, OpenerAt, IsAt, TakesOne, Takes, HasHalted, HasAnswered, Notes, IsNoRefusal}
+use Rattle.mmkv_top.proofs.Reasoning.{begin_found, is_reasoned, quiet_reasoned, said_printed}
+use Rattle.mmkv_top.specs.Player.{ChangesOn, FoundIs, StoppedIs, FollowsWork, CameTo, LeavesFewer, Settles, Stepped, IsOutcomeAt, IsOpened, OpenerAt, IsAt, TakesOne, Takes, HasHalted, HasAnswered, Notes, IsNoRefusal}
 use Rattle.mmkv_top.proofs.Answering.{goes_on, stops, answers_one}
 use Rattle.mmkv_top.proofs.InTime.{begin_bounded, line_bounded, opened_in_time}
 use Rattle.mmkv_top.proofs.Settled.{begin_settles, line_settles}
@@ -73,7 +74,7 @@ line_ends start past made answers held (Some r) (step.Answered a) o outcome befo
     (record { ends = came.2; follows = idle_follows o.work came.0; holds = came.1 ∙ held_by_own a r.call held came.2.by came.2.call_is; answered = answers_one start made past r answers a before came.2.begun answer })
 line_ends start past made answers held (Some r) (step.Stopped why) o outcome before answer came at =
     subst (LineEnds start past made answers held (Some r) (step.Stopped why) o) (sym at.1)
-    (record { ends = (refl, at.2); follows = idle_follows o.work came.0; holds = came.1; answered = stops start made past (Some r) answers before })
+    (record { ends = (refl, said_printed why at.0 at.2); follows = idle_follows o.work came.0; holds = came.1; answered = stops start made past (Some r) answers before })
 line_ends start past made answers held None step.Again o outcome before answer came at = absurd came
 line_ends start past made answers held None (step.Blocked holder) o outcome before answer came at = absurd came
 line_ends start past made answers held None (step.Answered a) o outcome before answer came at = absurd came
@@ -109,6 +110,8 @@ first_step start parts o s who start_is past steady op =
       came = (subst (FollowsWork o.work) (sym (going_none (running 1 parts))) op.follows, op.holds);
       changed = λ so_far are. ([], ap changes_of past ∙ sym (append-nil (changes_of (past_of parts))), subst (AreMade 1 o.work) (sym (append-nil so_far)) are);
       fewer = λ words fits. omega arith;
+      found = subst (λ x. FoundIs o.work x s.region.past) (sym start_is) (subst (FoundIs o.work start) (sym past) op.found);
+      stopped = tt;
     }
 
 -- the opener lives
@@ -162,6 +165,7 @@ steps_taken stock left start parts p q o o' t count last outcome made who at op 
           (subst (λ x. CameTo x (holds_of 1 parts) (option_map (going_on made) (running 1 parts)) last o') st.past_is st.came) op.bounded
           (subst (λ x. LeavesFewer last o.work o'.work count (file_size (region_after x (made ++ past_of parts)))) st.start_is
           (subst (λ x. LeavesFewer last o.work o'.work count (file_size (region_after t.region.start x))) st.past_is st.fewer)) noted;
+      found = subst (λ x. FoundIs o'.work x (made ++ past_of parts)) st.start_is (subst (FoundIs o'.work t.region.start) st.past_is st.found);
     } in (
       made,
       outcome,
@@ -172,6 +176,11 @@ steps_taken stock left start parts p q o o' t count last outcome made who at op 
         steady = ap (λ (s : Seated). s.region.failing.listed) seat ∙ st.steady;
         each = (at.each, (lives_one start parts o p.seat who at.past op, is_step_line (past_of parts) made count (running 1 parts) outcome st.few st.own st.idle ends.ends));
         in_time = (at.in_time, opened_in_time start (record { line = Some (StepLine 1 count); made = made; outcome = outcome } ∷ parts) o' t opened);
+        reasoned = (
+          at.reasoned,
+          is_reasoned start (record { line = Some (StepLine 1 count); made = made; outcome = outcome }) parts last noted
+              (subst (λ x. StoppedIs last (running 1 parts) x (made ++ past_of parts)) st.start_is (subst (StoppedIs last (running 1 parts) t.region.start) st.past_is st.stopped)),
+        );
         opener = subst (λ s. OpenerAt stock left start (record { line = Some (StepLine 1 count); made = made; outcome = outcome } ∷ parts) s q.opener) (sym seat)
             (subst (OpenerAt stock left start (record { line = Some (StepLine 1 count); made = made; outcome = outcome } ∷ parts) t) (sym opener) opened);
       },
@@ -241,6 +250,7 @@ begin_taken stock left start parts p q o o' who now call one built seat is seat_
         steady = ap (λ (s : Seated). s.region.failing.listed) seat_is ∙ at.steady;
         each = (at.each, (record { alive = lives_one start parts o p.seat seat at.past op; idle = free.0; asks = subst (λ h. call_refusal call h ≡ None) op.holds free.1 }, (refl, refl)));
         in_time = (at.in_time, opened_in_time start grown o' p.seat opened);
+        reasoned = (at.reasoned, quiet_reasoned start (record { line = Some (Begin 1 now call); made = []; outcome = None }) parts refl);
         opener = subst (λ s. OpenerAt stock left start grown s q.opener) (sym seat_is) (subst (OpenerAt stock left start grown p.seat) (sym opener) opened);
       },
     )
@@ -267,6 +277,7 @@ begin_taken stock left start parts p q o o' who now call one built seat is seat_
       settles = subst (λ xs. Settles o'.work start (past_of parts) (answers_in xs)) (sym (append-nil (outcomes_of parts)))
           (begin_settles start (past_of parts) (answers_in (outcomes_of parts)) call now (length (changes_of p.seat.region.past)) o o' (ap (λ x. length (changes_of x)) at.past) first begins op.settles);
       bounded = begin_bounded call now (length (changes_of p.seat.region.past)) (file_size (region_after start (past_of parts))) o o' begins bound;
+      found = begin_found call now (length (changes_of p.seat.region.past)) o o' start (past_of parts) begins;
     }
 
 -- the same by the seat that the call was begun at

@@ -22,10 +22,11 @@ use Rattle.script_lang.specs.declared.line.Line.TheVariants.{Open}
 use Rattle.mmkv_top.specs.State.{PlayerState}
 use Rattle.mmkv_top.specs.Parts.{Part, past_of, outcomes_of, answers_in, strategies, asked_of, running, going_on}
 use Rattle.mmkv_top.specs.Played.{Stock, stocked, drawn}
-use Rattle.mmkv_top.specs.Player.{IsOpened, IsUnopened, OpenerAt, IsAt, IsReady, IsReadyFor, TakesOne, FollowsWork, HasAnswered, IsBounded, Settles}
+use Rattle.mmkv_top.specs.Player.{IsOpened, IsUnopened, OpenerAt, IsAt, IsReady, IsReadyFor, TakesOne, FollowsWork, FoundIs, HasAnswered, IsBounded, Settles}
 use Rattle.mmkv_top.proofs.Answering.{nothing_answered}
 use Rattle.mmkv_top.proofs.LineEnds.{going_none}
 use Rattle.mmkv_top.proofs.InTime.{in_time_at, opened_in_time}
+use Rattle.mmkv_top.proofs.Reasoning.{quiet_reasoned}
 use Rattle.mmkv_top.proofs.Settled.{nothing_to_settle}
 
 abbrev new_opener : ℕ → OpenerState
@@ -77,6 +78,7 @@ open_taken stock left left' start parts p q o who strategy none had begins past 
     steady = listed ∙ at.steady;
     each = (at.each, ((few, enough), (refl, refl)));
     in_time = (at.in_time, opened_in_time start grown o q.seat opened);
+    reasoned = (at.reasoned, quiet_reasoned start (record { line = Some (Open strategy); made = []; outcome = None }) parts refl);
     opener = subst (OpenerAt stock left' start grown q.seat) (sym opener) opened;
   },
 )
@@ -109,6 +111,7 @@ open_taken stock left left' start parts p q o who strategy none had begins past 
           (subst (λ xs. Settles Idle start (past_of parts) (answers_in xs)) (sym (append-nil (outcomes_of parts) ∙ un.outcomes))
           (subst (λ x. Settles Idle start x []) (sym un.past) (nothing_to_settle start)));
       bounded = subst (λ (x : OpenerState). IsBounded x.work (asked_of 1 parts) (file_size (region_after start (past_of parts)))) (sym new) tt;
+      found = subst (λ (x : OpenerState). FoundIs x.work start (past_of parts)) (sym new) tt;
     }
 
 abbrev nothing : Part
@@ -137,6 +140,7 @@ grow_nothing stock left start parts s (Some o) op =
           (subst (λ r. HasAnswered start (past_of parts) r (answers_in (outcomes_of parts))) (sym (going_none (running 1 parts))) op.answered);
       settles = subst (λ xs. Settles o.work start (past_of parts) (answers_in xs)) (sym (append-nil (outcomes_of parts))) op.settles;
       bounded = op.bounded;
+      found = op.found;
     }
 
 -- a line that names nothing
@@ -153,6 +157,7 @@ nothing_taken stock left start parts p line none at =
         steady = at.steady;
         each = (at.each, (refl, refl));
         in_time = (at.in_time, in_time_at stock left start (nothing ∷ parts) p.seat p.opener (grow_nothing stock left start parts p.seat p.opener at.opener));
+        reasoned = (at.reasoned, quiet_reasoned start nothing parts refl);
         opener = grow_nothing stock left start parts p.seat p.opener at.opener;
       },
     )

@@ -1,7 +1,7 @@
 -- A line goes on by one step of its opener.
 use Rattle.std.proofs.Common.{◌≡◌, ℕ, ◌+◌, ◌≤◌, Bool, true, false, List, [], ◌∷◌, ◌++◌, length, refl, sym, ap, ◌∙◌, inl, inr, arith, subst, append-nil, append_assoc, length-append, eq-eqb}
 use Rattle.std.proofs.lemmas.List.{length-map}
-use Rattle.std.specs.Prelude.{Option, Some, None, IfSome, option_map, not, ◌||◌, ◌&&◌, ◌==◌}
+use Rattle.std.specs.Prelude.{⊤, Option, Some, None, IfSome, option_map, not, ◌||◌, ◌&&◌, ◌==◌}
 use Rattle.std.specs.Option.{option_map_or}
 use Rattle.change_log.specs.Settled.{AreOfCall}
 use Rattle.change_log.specs.declared.call.Answer.{Answer}
@@ -11,7 +11,7 @@ use Rattle.opener.specs.Calls.{holds_after}
 use Rattle.opener.specs.Adds.{AddsTo, AreMade, AreMadeBy}
 use Rattle.opener.specs.Bound.{Falls, steps_left}
 use Rattle.opener.specs.Writes.{commits_of}
-use Rattle.opener.specs.Opener.{Tied, MakesOne, KeepsWork, KeepsCall, HasCause, HasStopped, OnAnswer, IsAnswer, IsAnswerOf, RunsOn, IsAt, IsSeen, stop_found, is_ended}
+use Rattle.opener.specs.Opener.{Tied, MakesOne, KeepsWork, KeepsCall, HasCause, HasStopped, OnAnswer, IsAnswer, IsAnswerOf, RunsOn, IsAt, IsSeen, WorkIs, stop_found, is_ended}
 use Rattle.opener.specs.State.{OpenerState}
 use Rattle.opener.specs.declared.calls.Step.{Step}
 use Rattle.opener.specs.declared.calls.Step.TheVariants as step
@@ -33,8 +33,10 @@ use Rattle.region_words.specs.declared.event.Event.{Event}
 use Rattle.region_words.specs.declared.event.What.{What}
 use Rattle.mmkv_top.specs.Parts.{Running, going_on}
 use Rattle.mmkv_top.specs.Played.{AreSteps, IsAnsweredBy}
+use Rattle.region_words.proofs.ReadLaws.{changes_more}
 use Rattle.region_words.proofs.StaysFirm.{file_grows}
-use Rattle.mmkv_top.specs.Player.{AreMadeOn, ChangesOn, LeavesFewer, Follows, FollowsWork, CameTo, Stepped}
+use Rattle.mmkv_top.proofs.Reasoning.{found_later, going_found, holds_of_same, idle_found, stopped_holds}
+use Rattle.mmkv_top.specs.Player.{AreMadeOn, ChangesOn, FoundIs, StoppedIs, LeavesFewer, Follows, FollowsWork, CameTo, Stepped}
 
 -- what a call on the seat made
 record Moved (s t : Seated) : Type 0 where
@@ -309,6 +311,79 @@ step_fewer s t makes first work after n result lawful falls fewer = go result fa
     go (step.Answered a) falls = tt
     go (step.Stopped why) falls = tt
 
+-- what was found, and the begin of the call, hold after a step
+moved_later : (s t : Seated) → MakesOne (seat_state s) (seat_state t) → (work : Work) → FoundIs work s.region.start s.region.past → FoundIs work t.region.start t.region.past
+moved_later s t makes work f =
+    let m = moved s t makes in
+    subst (λ x. FoundIs work x t.region.past) (sym m.start)
+    (subst (λ p. FoundIs work s.region.start p) (sym m.past) (found_later work s.region.start (made_by s.who m.own) s.region.past f))
+
+-- a call that runs began after no more changes than there are
+abbrev HasBegun : Work → List Event → Type 0
+HasBegun (Runs c at) past = c.begun ≤ length (changes_of past)
+HasBegun _ past = ⊤
+
+begun_of : (o : OpenerState) (s : Seated) → Tied o (seat_state s) → HasBegun o.work s.region.past
+begun_of o s tied = go o.work tied.told.facts.work
+  where
+    go : (work : Work) → WorkIs o work s.region.start s.region.past → HasBegun work s.region.past
+    go Idle is = tt
+    go Ended is = tt
+    go (Runs c at) is = is.0
+
+begun_later : (s t : Seated) → MakesOne (seat_state s) (seat_state t) → (work : Work) → HasBegun work s.region.past → HasBegun work t.region.past
+begun_later s t makes Idle begun = tt
+begun_later s t makes Ended begun = tt
+begun_later s t makes (Runs c at) begun =
+    let m = moved s t makes in
+    subst (λ p. c.begun ≤ length (changes_of p)) (sym m.past)
+    (omega (arith, begun, ap length (changes_more (made_by s.who m.own) s.region.past), length-append (changes_of s.region.past) (changes_of (made_by s.who m.own))))
+
+module _ (s t : Seated) (o o' : OpenerState) where
+  -- what a step has found
+  step_found : (work : Work) (result : Step) → FoundIs work t.region.start t.region.past → HasBegun work t.region.past → KeepsWork (record o { work = work }) result o' →
+      HasCause work result o'.work (seat_state s) (seat_state t) → Falls work result o'.work (seat_state t) → FoundIs o'.work t.region.start t.region.past
+  step_found Idle result found begun keeps cause falls = subst (λ (x : OpenerState). FoundIs x.work t.region.start t.region.past) (sym keeps.1) tt
+  step_found Ended result found begun keeps cause falls = subst (λ (x : OpenerState). FoundIs x.work t.region.start t.region.past) (sym keeps.1) tt
+  step_found (Runs c at) result found begun keeps cause falls = go result keeps cause falls
+    where
+      over : (work : Work) → work ≡ Idle → FoundIs work t.region.start t.region.past
+      over work idle = idle_found work t.region.start t.region.past idle
+
+      go : (result : Step) → KeepsCall o.who o.holds c result o' → HasCause (Runs c at) result o'.work (seat_state s) (seat_state t) → Falls (Runs c at) result o'.work (seat_state t) →
+          FoundIs o'.work t.region.start t.region.past
+      go step.Idle keeps cause falls = absurd keeps
+      go step.Going keeps cause falls = going_found c at s t begun o'.work keeps.0 cause
+      go step.Again keeps cause same = subst (λ w. FoundIs w t.region.start t.region.past) (sym same) found
+      go (step.Blocked holder) keeps cause same = subst (λ w. FoundIs w t.region.start t.region.past) (sym same) found
+      go (step.Answered a) keeps cause falls = over o'.work keeps.1
+      go (step.Stopped stop.Fault) keeps cause falls = subst (λ w. FoundIs w t.region.start t.region.past) (sym keeps.0) tt
+      go (step.Stopped stop.Memory) keeps cause falls = over o'.work keeps.0
+      go (step.Stopped stop.JournalFull) keeps cause falls = over o'.work keeps.0
+      go (step.Stopped (stop.NotWhole seen)) keeps cause falls = over o'.work keeps.0
+      go (step.Stopped (stop.Version n)) keeps cause falls = over o'.work keeps.0
+      go (step.Stopped (stop.Flags n)) keeps cause falls = over o'.work keeps.0
+      go (step.Stopped (stop.Full need)) keeps cause falls = over o'.work keeps.0
+      go (step.Stopped stop.SequenceEnd) keeps cause falls = over o'.work keeps.0
+      go (step.Stopped stop.ExpiryOff) keeps cause falls = over o'.work keeps.0
+      go (step.Stopped stop.ExpiryRange) keeps cause falls = over o'.work keeps.0
+
+  -- and what it stopped for
+  step_stopped : (work : Work) (result : Step) (made : List Event) (before : Option Running) → FoundIs work t.region.start t.region.past → HasBegun work t.region.past →
+      FollowsWork work (option_map (going_on made) before) → KeepsWork (record o { work = work }) result o' → HasCause work result o'.work (seat_state s) (seat_state t) →
+      StoppedIs result before t.region.start t.region.past
+  step_stopped work step.Idle made before found begun follows keeps cause = tt
+  step_stopped work step.Going made before found begun follows keeps cause = tt
+  step_stopped work step.Again made before found begun follows keeps cause = tt
+  step_stopped work (step.Blocked holder) made before found begun follows keeps cause = tt
+  step_stopped work (step.Answered a) made before found begun follows keeps cause = tt
+  step_stopped work (step.Stopped why) made None found begun follows keeps cause = tt
+  step_stopped Idle (step.Stopped why) made (Some r) found begun follows keeps cause = absurd follows
+  step_stopped Ended (step.Stopped why) made (Some r) found begun follows keeps cause = absurd follows
+  step_stopped (Runs c at) (step.Stopped why) made (Some r) found begun follows keeps cause =
+      holds_of_same why c.call r.call c.now r.now c.begun (length (changes_of r.past)) t.region.start t.region.past (sym follows.call) (sym follows.moment) (sym follows.begun)
+      (stopped_holds c at s t begun why cause found)
+
 -- one step more
 pub one_more : (start : Region) (past : List Event) (held : ℕ) (before : Option Running) (first : Work) (n : ℕ) (made : List Event)
     (o o' : OpenerState) (s t : Seated) (result : Step) →
@@ -326,7 +401,8 @@ one_more start past held before first n made o o' s t result st tied tied' makes
     let alive : has_died t.region.past t.who ≡ false =
     right_false (not (account_of t.region.accounts t.who).admitted) (has_died t.region.past t.who)
     (tied'.ended ∙ came_alive t.region.past held (option_map (going_on own) (option_map (going_on made) before)) result o' came) in
-    let alive_now : has_died (own ++ s.region.past) 1 ≡ false = sym (ap (λ x. has_died x 1) grown) ∙ sym (ap (has_died t.region.past) seat) ∙ alive in (
+    let alive_now : has_died (own ++ s.region.past) 1 ≡ false = sym (ap (λ x. has_died x 1) grown) ∙ sym (ap (has_died t.region.past) seat) ∙ alive in
+    let begun_now = begun_later s t makes o.work (begun_of o s tied) in (
       own ++ made,
       record {
         few = omega (arith, length-append own made, length-map m.own (event_by 1), m.few, st.few);
@@ -342,6 +418,8 @@ one_more start past held before first n made o o' s t result st tied tied' makes
         came = subst (λ r. CameTo t.region.past held r result o') (going_twice own made before) came;
         changed = step_changed s t makes st.steady past first o o' o.work result st.who tied.at (subst (λ w. AddsTo w o.work result o'.work (seat_state s) (seat_state t)) st.who adds) keeps cause st.changed;
         fewer = step_fewer s t makes first o.work o'.work n result tied'.told.agrees.lawful falls st.fewer;
+        found = step_found s t o o' o.work result (moved_later s t makes o.work st.found) begun_now keeps cause falls;
+        stopped = step_stopped s t o o' o.work result made before (moved_later s t makes o.work st.found) begun_now st.came.0 keeps cause;
       },
     )
 
@@ -364,6 +442,8 @@ at_most start past held before first n count result made o s below all st =
       came = st.came;
       changed = st.changed;
       fewer = go result all st.fewer;
+      found = st.found;
+      stopped = st.stopped;
     }
   where
     size_now : ℕ

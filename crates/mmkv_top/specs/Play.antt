@@ -19,7 +19,7 @@ use Rattle.mmkv_top.specs.declared.limits.TheConstants.{LARGEST_COUNT, LARGEST_L
 use Rattle.mmkv_top.specs.declared.ending.Ending.{Ending}
 use Rattle.mmkv_top.specs.Ending.{ending}
 use Rattle.mmkv_top.specs.Parts.{Part, lines_of, past_of, outcomes_of, answers_in, strategies, Running, running, asked_of}
-use Rattle.mmkv_top.specs.Played.{Stock, MayCome, ArePlayed}
+use Rattle.mmkv_top.specs.Played.{Stock, MayCome, ArePlayed, AreReasoned}
 
 -- a line without its line feed
 abbrev pub without_feed : List ℕ → List ℕ
@@ -81,6 +81,7 @@ pub record IsJournal (stock : Stock) (start : Region) (parts : List Part) : Type
   pub each : ArePlayed stock parts
   pub lawful : Lawful start (past_of parts)
   pub in_time : AreInTime start parts
+  pub reasoned : AreReasoned start parts
   pub answers : AreAnswered start (past_of parts) (answers_in (outcomes_of parts))
   pub legal : IsAccepted start → Apart start (past_of parts) → Legal (base start) (changes_of (past_of parts)) (answers_in (outcomes_of parts))
 

@@ -9,7 +9,14 @@ use Rattle.handlers.specs.declared.stock.HandlerStock.{HandlerStock}
 use Rattle.lock_rules.specs.Locks.{IsLeastAgainst}
 use Rattle.lock_rules.specs.declared.table.LockKind.{LockKind}
 use Rattle.opener.specs.Begins.{call_refusal}
-use Rattle.region_words.specs.Past.{changes_of, locks_after, is_death}
+use Rattle.opener.specs.Plans.{refusal_of}
+use Rattle.opener.specs.declared.calls.Stop.{Stop}
+use Rattle.opener.specs.declared.calls.Stop.TheVariants as stop
+use Rattle.region_words.specs.Apart.{Apart}
+use Rattle.region_words.specs.Lawful.{map_after}
+use Rattle.region_words.specs.Past.{changes_of, locks_after, is_death, region_after}
+use Rattle.region_words.specs.Region.{Region, IsAccepted}
+use Rattle.region_words.specs.Rows.{standing}
 use Rattle.region_words.specs.declared.event.What.TheVariants.{Died}
 use Rattle.region_words.specs.declared.event.Event.{Event}
 use Rattle.region_words.specs.declared.event.TornWord.{TornWord}
@@ -81,6 +88,23 @@ IsPrinted reason.ExpiryOff = ⊤
 IsPrinted reason.ExpiryRange = ⊤
 IsPrinted _ = ⊥
 
+-- the reason that is printed for a stop, if it is one of these
+abbrev pub reason_said : Stop → Option Reason
+reason_said (stop.Full need) = Some (reason.Full need)
+reason_said stop.SequenceEnd = Some reason.SequenceEnd
+reason_said stop.ExpiryOff = Some reason.ExpiryOff
+reason_said stop.ExpiryRange = Some reason.ExpiryRange
+reason_said _ = None
+
+-- a write of a moment, begun after so many changes, was refused for this: it was the first reason in the region as it stood then, and in the
+-- map of the history
+pub record WasRefused (why : Stop) (asked : Call) (now begun : ℕ) (start : Region) (past : List Event) : Type 0 where
+  pub later : List Event
+  pub earlier : List Event
+  pub is : later ++ earlier ≡ past
+  pub since : begun ≤ length (changes_of earlier)
+  pub first : IsAccepted start → Apart start earlier → refusal_of asked now (standing (region_after start earlier)) (map_after start earlier) ≡ Some why
+
 -- what ends a step line of a running call: it goes on, is answered, waits for the least holder that stands against its try, or is stopped
 abbrev pub IsOutcomeOf : List Event → Running → ℕ → Option Outcome → Type 0
 IsOutcomeOf past c who None = ⊤
@@ -108,6 +132,17 @@ Makes parts _ made outcome = (made ≡ []) × (outcome ≡ None)
 abbrev pub IsPartOf : Stock → List Part → Option Line → List Event → Option Outcome → Type 0
 IsPartOf stock parts None made outcome = (made ≡ []) × (outcome ≡ None)
 IsPartOf stock parts (Some l) made outcome = MayCome stock parts l × Makes parts l made outcome
+
+-- where the line's call was stopped, its write was refused for the reason that is printed
+abbrev pub IsReasoned : Region → Part → List Part → Type 0
+IsReasoned start p parts =
+    (c : Running) (who : ℕ) (r : Reason) → running 1 parts ≡ Some c → p.outcome ≡ Some (Stopped who r) →
+    (why : Stop) × (reason_said why ≡ Some r) × WasRefused why c.call c.now (length (changes_of c.past)) start (p.made ++ past_of parts)
+
+-- each line's
+abbrev pub AreReasoned : Region → List Part → Type 0
+AreReasoned start [] = ⊤
+AreReasoned start (p ∷ parts) = AreReasoned start parts × IsReasoned start p parts
 
 -- each line made what it may
 abbrev pub ArePlayed : Stock → List Part → Type 0

@@ -1,9 +1,10 @@
 -- The player of a script, and how far it has come.
-use Rattle.std.specs.Prelude.{◌≡◌, ℕ, ◌*◌, ◌+◌, ◌<◌, ◌≤◌, ◌⊎◌, Bool, List, [], ◌∷◌, ◌++◌, Option, Some, None, Result, Ok, Err, length, option_map, replicate, codes, decimal, ⊤}
+use Rattle.std.specs.Prelude.{◌≡◌, ℕ, ◌*◌, ◌+◌, ◌<◌, ◌≤◌, ◌⊎◌, Bool, List, [], ◌∷◌, ◌++◌, Option, Some, None, Result, Ok, Err, length, IsTrue, is_some, option_map, replicate, codes, decimal, ⊤}
 use Rattle.std.specs.List.{AllByRecursion}
 use Rattle.change_log.specs.Settled.{AreEndedBy, AreOfCall, IsSettled}
 use Rattle.change_log.specs.declared.change.Change.{Change}
 use Rattle.change_log.specs.declared.call.Answer.{Answer}
+use Rattle.change_log.specs.declared.call.Call.{Call as Asked}
 use Rattle.lock_rules.specs.Locks.{IsLeastAgainst}
 use Rattle.lock_rules.specs.declared.table.LockKind.{LockKind}
 use Rattle.opener.specs.Adds.{AreMade}
@@ -14,6 +15,9 @@ use Rattle.opener.specs.State.{OpenerState}
 use Rattle.opener.specs.declared.calls.Step.{Step}
 use Rattle.opener.specs.declared.calls.Step.TheVariants as step
 use Rattle.opener.specs.declared.work.Running.{Running as Call}
+use Rattle.opener.specs.declared.calls.Stop.{Stop}
+use Rattle.opener.specs.declared.work.End.TheVariants as end
+use Rattle.opener.specs.declared.work.Stage.TheVariants.{Unlock}
 use Rattle.opener.specs.declared.work.Work.{Work}
 use Rattle.opener.specs.declared.work.Work.TheVariants.{Idle, Runs}
 use Rattle.region_words.specs.Apart.{Apart}
@@ -34,7 +38,7 @@ use Rattle.mmkv_top.specs.Ending.{ending}
 use Rattle.mmkv_top.specs.declared.ending.Ending.{Ending}
 use Rattle.script_lang.specs.Texts.{line as text_line}
 use Rattle.mmkv_top.specs.Parts.{Part, lines_of, past_of, outcomes_of, answers_in, listed, strategies, holds_of, asked_of, Running, running, going_on}
-use Rattle.mmkv_top.specs.Played.{Stock, ArePlayed, AreSteps, IsAnsweredBy, IsPrinted}
+use Rattle.mmkv_top.specs.Played.{Stock, ArePlayed, AreReasoned, AreSteps, IsAnsweredBy, WasRefused, reason_said}
 use Rattle.mmkv_top.specs.Play.{AreAnswered, AreInTime, IsWithin, AreLines, CanTake, IsFirstRefused, IsHalted, IsRefusedIn, not_yet}
 
 -- the opener runs this call
@@ -76,6 +80,19 @@ LeavesFewer step.Going first work count size = (words : ℕ) → size ≤ 4 * wo
 LeavesFewer (step.Blocked holder) first work count size = (words : ℕ) → size ≤ 4 * words → steps_left words work ≤ steps_left words first
 LeavesFewer _ first work count size = ⊤
 
+-- where the reason of a stop is one that is printed, the write was refused for it
+abbrev pub StopHolds : Stop → Asked → ℕ → ℕ → Region → List Event → Type 0
+StopHolds why asked now begun start past = IsTrue (is_some (reason_said why)) → WasRefused why asked now begun start past
+
+-- so it is of a stop that is found, and of one that a step came to
+abbrev pub FoundIs : Work → Region → List Event → Type 0
+FoundIs (Runs c (Unlock (end.Stop why))) start past = StopHolds why c.call c.now c.begun start past
+FoundIs _ start past = ⊤
+
+abbrev pub StoppedIs : Step → Option Running → Region → List Event → Type 0
+StoppedIs (step.Stopped why) (Some r) start past = StopHolds why r.call r.now (length (changes_of r.past)) start past
+StoppedIs _ before start past = ⊤
+
 -- So many steps of opener 1, which was at this work, were made at most, the last of them came to this, and these are their events.
 pub record Stepped (start : Region) (past : List Event) (held : ℕ) (before : Option Running) (first : Work) (count : ℕ) (last : Step) (made : List Event) (o : OpenerState) (s : Seated) : Type 0 where
   pub few : length made ≤ count
@@ -90,12 +107,14 @@ pub record Stepped (start : Region) (past : List Event) (held : ℕ) (before : O
   pub came : CameTo s.region.past held (option_map (going_on made) before) last o
   pub changed : ChangesOn first last o.work past s.region.past
   pub fewer : LeavesFewer last first o.work count (file_size (region_after s.region.start s.region.past))
+  pub found : FoundIs o.work s.region.start s.region.past
+  pub stopped : StoppedIs last before s.region.start s.region.past
 
 -- the outcome of a line whose last step of opener 1 came to this, if it has one
 abbrev pub IsOutcomeAt : Step → Option Outcome → Type 0
 IsOutcomeAt (step.Blocked holder) o = o ≡ Some (Blocked 1 holder)
 IsOutcomeAt (step.Answered a) o = o ≡ Some (Answered a)
-IsOutcomeAt (step.Stopped why) o = (r : Reason) × (o ≡ Some (Stopped 1 r)) × IsPrinted r
+IsOutcomeAt (step.Stopped why) o = (r : Reason) × (o ≡ Some (Stopped 1 r)) × (reason_said why ≡ Some r)
 IsOutcomeAt _ o = o ≡ None
 
 -- it ended the play, but wasn't refused
@@ -152,6 +171,7 @@ pub record IsOpened (start : Region) (parts : List Part) (o : OpenerState) (s : 
   pub answered : HasAnswered start (past_of parts) (running 1 parts) (answers_in (outcomes_of parts))
   pub settles : Settles o.work start (past_of parts) (answers_in (outcomes_of parts))
   pub bounded : IsBounded o.work (asked_of 1 parts) (file_size (region_after start (past_of parts)))
+  pub found : FoundIs o.work start (past_of parts)
 
 -- no opener yet
 pub record IsUnopened (stock left : Stock) (parts : List Part) : Type 0 where
@@ -174,6 +194,7 @@ pub record IsAt (stock left : Stock) (start : Region) (parts : List Part) (p : P
   pub steady : p.seat.region.failing.listed ≡ []
   pub each : ArePlayed stock parts
   pub in_time : AreInTime start parts
+  pub reasoned : AreReasoned start parts
   pub opener : OpenerAt stock left start parts p.seat p.opener
 
 -- the opener is tied to the seat, or nothing has happened there yet, and the region it starts from is accepted

@@ -1,5 +1,5 @@
 // A script's opener at a region in memory.
-ghost use Rattle.std.specs.Prelude.{◌≡◌, ◌↔◌, [], IsTrue, IfOk, IfErr, OnOk, List, Option, None, ℕ, false};
+ghost use Rattle.std.specs.Prelude.{◌≡◌, ◌↔◌, [], IsTrue, IfOk, IfErr, OnOk, List, Option, None, Some, ℕ, false};
 ghost use Rattle.opener.specs.Calls.{IsBuilt};
 ghost use Rattle.opener.specs.Opener.{Tied};
 ghost use Rattle.opener.specs.declared.work.Work.TheVariants as Work;
@@ -7,7 +7,7 @@ ghost use Rattle.region_words.specs.Region.{Region, IsAccepted};
 ghost use Rattle.region_words.specs.Local.{seat_state};
 ghost use Rattle.region_words.specs.declared.event.Event.{Event};
 ghost use Rattle.mmkv_top.specs.Parts.{Running};
-ghost use Rattle.mmkv_top.specs.Played.{IsPrinted};
+ghost use Rattle.mmkv_top.specs.Played.{reason_said};
 ghost use Rattle.mmkv_top.specs.Player.{Stepped, IsOutcomeAt, IsNoRefusal};
 
 use crate::halt::Halt;
@@ -209,7 +209,7 @@ fn outcome_of(last: Step) -> Result<Option<Outcome>, Halt>
 
 // The reason that is printed for a stop; the others end the play.
 fn reason_of(stop: Stop) -> Result<Reason, Halt>
-    ensures ok { IfOk result IsPrinted }
+    ensures ok { IfOk result (λ r. reason_said stop ≡ Some r) }
     ensures err { IfErr result IsNoRefusal }
 {
     match stop {
