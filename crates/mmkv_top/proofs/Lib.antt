@@ -1,4 +1,5 @@
 mod Dumped
+mod Counting
 mod Reasoning
 mod Stepping
 mod Answering

@@ -226,7 +226,7 @@ begun_follows : (call : Asked) (now n : ℕ) (past : List Event) (old new : Open
     FollowsWork new.work (Some (record { call = call; now = now; past = past; since = [] }))
 begun_follows call now n past old new is b =
     subst (λ (x : OpenerState). FollowsWork x.work (Some (record { call = call; now = now; past = past; since = [] }))) (sym b.work)
-    (record { call = refl; moment = refl; begun = is })
+    (record { call = refl; moment = refl; begun = is; stores = refl; locks = refl })
 
 idle_where : (work : Work) (call : Asked) (holds : ℕ) (r : Option Running) → FollowsWork work r → refusal_at work call holds ≡ None → (r ≡ None) × (call_refusal call holds ≡ None)
 idle_where Idle call holds None follows none = (refl, none)

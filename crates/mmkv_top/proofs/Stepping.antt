@@ -1,6 +1,6 @@
 -- A line goes on by one step of its opener.
 use Rattle.std.proofs.Common.{◌≡◌, ℕ, ◌+◌, ◌≤◌, Bool, true, false, List, [], ◌∷◌, ◌++◌, length, refl, sym, ap, ◌∙◌, inl, inr, arith, subst, append-nil, append_assoc, length-append, eq-eqb}
-use Rattle.std.proofs.lemmas.List.{length-map}
+use Rattle.std.proofs.lemmas.List.{append_cancel_right, length-map}
 use Rattle.std.specs.Prelude.{⊤, Option, Some, None, IfSome, option_map, not, ◌||◌, ◌&&◌, ◌==◌}
 use Rattle.std.specs.Option.{option_map_or}
 use Rattle.change_log.specs.Settled.{AreOfCall}
@@ -8,7 +8,7 @@ use Rattle.change_log.specs.declared.call.Answer.{Answer}
 use Rattle.change_log.specs.declared.change.Change.{Change}
 use Rattle.lock_rules.specs.Locks.{IsLeastAgainst}
 use Rattle.opener.specs.Calls.{holds_after}
-use Rattle.opener.specs.Adds.{AddsTo, AreMade, AreMadeBy}
+use Rattle.opener.specs.Adds.{AddsTo, AreMade, AreMadeBy, Counts, IsRaised, IsRaisedIn, is_store, locks_taken, stores_in}
 use Rattle.opener.specs.Bound.{Falls, steps_left}
 use Rattle.opener.specs.Writes.{commits_of}
 use Rattle.opener.specs.Opener.{Tied, MakesOne, KeepsWork, KeepsCall, HasCause, HasStopped, OnAnswer, IsAnswer, IsAnswerOf, RunsOn, IsAt, IsSeen, WorkIs, stop_found, is_ended}
@@ -26,12 +26,13 @@ use Rattle.opener.specs.declared.work.Work.TheVariants.{Idle, Ended, Runs}
 use Rattle.region_words.specs.Lawful.{Lawful}
 use Rattle.region_words.specs.Region.{Region, file_size}
 use Rattle.region_words.specs.Past.{change_of, changes_of, region_after, locks_after, has_died, is_death}
-use Rattle.region_words.specs.Local.{Seated, seat_state, account_of}
+use Rattle.region_words.specs.Local.{Seated, seat_state, account_of, lock_after}
 use Rattle.region_words.specs.Share.{Grows, ShareState, made_by}
 use Rattle.region_words.specs.Told.{History, OnBoth, OnTold}
 use Rattle.region_words.specs.declared.event.Event.{Event}
 use Rattle.region_words.specs.declared.event.What.{What}
-use Rattle.mmkv_top.specs.Parts.{Running, going_on}
+use Rattle.mmkv_top.specs.Parts.{Running, going_on, is_lock, locks_among, stores_among}
+use Rattle.mmkv_top.proofs.Counting.{count_goes_on, own_locks, stores_of_own}
 use Rattle.mmkv_top.specs.Played.{AreSteps, IsAnsweredBy}
 use Rattle.region_words.proofs.ReadLaws.{changes_more}
 use Rattle.region_words.proofs.StaysFirm.{file_grows}
@@ -114,15 +115,36 @@ no_fault None work s t seen steady h = h.due.0 steady
 no_fault (Some found) work s t seen steady (inl same) = subst IsSeen (sym same) seen
 no_fault (Some found) work s t seen steady (inr h) = h.1.due.0 steady
 
-runs_on : (c : Call) (r : Running) (own : List Event) (work : Work) → Follows c r → RunsOn c work → FollowsWork work (Some (going_on own r))
-runs_on c r own Idle follows on = absurd on
-runs_on c r own Ended follows on = absurd on
-runs_on c r own (Runs next stage) follows on =
-    record { call = on.call ∙ follows.call; moment = on.now ∙ follows.moment; begun = on.begun ∙ follows.begun }
+-- what a step counts: at most one event, its stores and its locks
+record Counted (c : Call) (own : List Event) (result : Step) (work : Work) : Type 0 where
+  loads : ℕ
+  stores : ℕ
+  locks : ℕ
+  counts : Counts c loads stores locks result work
+  few : length own ≤ 1
+  stores_are : stores ≡ stores_among own
+  locks_are : locks ≡ locks_among own
 
-answered : (a : Answer) (who : ℕ) (c : Call) (r : Running) (own : List Event) (start : Region) (past : List Event) → who ≡ 1 → Follows c r → IsAnswerOf a who c →
-    IsAnswer a start past → IsAnsweredBy past (going_on own r) 1 a
-answered a who c r own start past one follows of is =
+abbrev CountedAt : Work → List Event → Step → Work → Type 0
+CountedAt (Runs c at) own result work = Counted c own result work
+CountedAt _ own result work = ⊤
+
+runs_on : (c : Call) (r : Running) (own : List Event) (loads stores locks : ℕ) (work : Work) → length own ≤ 1 → stores ≡ stores_among own → locks ≡ locks_among own → Follows c r → RunsOn c work →
+    IsRaisedIn c loads stores locks work → FollowsWork work (Some (going_on own r))
+runs_on c r own loads stores locks Idle few of_stores of_locks follows on raised = absurd on
+runs_on c r own loads stores locks Ended few of_stores of_locks follows on raised = absurd on
+runs_on c r own loads stores locks (Runs next stage) few of_stores of_locks follows on raised =
+    record {
+      call = on.call ∙ follows.call;
+      moment = on.now ∙ follows.moment;
+      begun = on.begun ∙ follows.begun;
+      stores = count_goes_on (λ e. is_store e.what) own r.since stores c.stores next.stores of_stores few follows.stores raised.stores_are;
+      locks = count_goes_on (λ e. is_lock e.what) own r.since locks c.locks next.locks of_locks few follows.locks raised.locks_are;
+    }
+
+answered : (a : Answer) (who : ℕ) (c : Call) (r : Running) (own : List Event) (start : Region) (past : List Event) (loads stores locks : ℕ) → who ≡ 1 → length own ≤ 1 → stores ≡ stores_among own →
+    locks ≡ locks_among own → IsRaised c loads stores locks a.loads a.stores a.locks → Follows c r → IsAnswerOf a who c → IsAnswer a start past → IsAnsweredBy past (going_on own r) 1 a
+answered a who c r own start past loads stores locks one few of_stores of_locks raised follows of is =
     record {
       by = of.by ∙ one;
       call_is = of.call_is ∙ follows.call;
@@ -131,22 +153,25 @@ answered a who c r own start past one follows of is =
       place_begun = is.begun;
       place_ended = is.placed;
       ended = is.ended;
+      stores = count_goes_on (λ e. is_store e.what) own r.since stores c.stores a.stores of_stores few follows.stores raised.stores_are;
+      locks = count_goes_on (λ e. is_lock e.what) own r.since locks c.locks a.locks of_locks few follows.locks raised.locks_are;
     }
 
 -- what a step of a call that runs comes to
 module _ (s t : Seated) (seat : t.who ≡ 1) (steady : s.region.failing.listed ≡ []) where
   call_came : (o o' : OpenerState) (c : Call) (at : Stage) (r : Running) (own : List Event) (held : ℕ) (result : Step) → o.who ≡ 1 → o.holds ≡ held →
-      IsAt o (Runs c at) → Follows c r → KeepsCall o.who o.holds c result o' →
+      IsAt o (Runs c at) → Follows c r → Counted c own result o'.work → KeepsCall o.who o.holds c result o' →
       HasCause (Runs c at) result o'.work (seat_state s) (seat_state t) →
       OnAnswer result (λ a. IsAnswer a t.region.start t.region.past) → CameTo t.region.past held (Some (going_on own r)) result o'
-  call_came o o' c at r own held step.Idle one same is follows keeps cause answer = absurd keeps
-  call_came o o' c at r own held step.Going one same is follows keeps cause answer = (runs_on c r own o'.work follows keeps.0, keeps.1 ∙ same)
-  call_came o o' c at r own held step.Again one same is follows keeps cause answer = let t : true ≡ false = cause.0.takes_turns in absurd cc
-  call_came o o' c at r own held (step.Blocked holder) one same is follows keeps cause answer =
-      (runs_on c r own o'.work follows keeps.0, keeps.1 ∙ same, (cause.0, subst (λ w. IsLeastAgainst (locks_after t.region.past) w cause.0 holder) seat cause.1.1))
-  call_came o o' c at r own held (step.Answered a) one same is follows keeps cause answer =
-      (keeps.1, keeps.2 ∙ ap (λ x. holds_after x o.holds) follows.call ∙ ap (holds_after r.call) same, answered a o.who c r own t.region.start t.region.past one follows keeps.0 answer)
-  call_came o o' c at r own held (step.Stopped why) one same is follows keeps cause answer = stopped why keeps cause
+  call_came o o' c at r own held step.Idle one same is follows n keeps cause answer = absurd keeps
+  call_came o o' c at r own held step.Going one same is follows n keeps cause answer =
+      (runs_on c r own n.loads n.stores n.locks o'.work n.few n.stores_are n.locks_are follows keeps.0 n.counts, keeps.1 ∙ same)
+  call_came o o' c at r own held step.Again one same is follows n keeps cause answer = let t : true ≡ false = cause.0.takes_turns in absurd cc
+  call_came o o' c at r own held (step.Blocked holder) one same is follows n keeps cause answer =
+      (runs_on c r own n.loads n.stores n.locks o'.work n.few n.stores_are n.locks_are follows keeps.0 n.counts, keeps.1 ∙ same, (cause.0, subst (λ w. IsLeastAgainst (locks_after t.region.past) w cause.0 holder) seat cause.1.1))
+  call_came o o' c at r own held (step.Answered a) one same is follows n keeps cause answer =
+      (keeps.1, keeps.2 ∙ ap (λ x. holds_after x o.holds) follows.call ∙ ap (holds_after r.call) same, answered a o.who c r own t.region.start t.region.past n.loads n.stores n.locks one n.few n.stores_are n.locks_are n.counts follows keeps.0 answer)
+  call_came o o' c at r own held (step.Stopped why) one same is follows n keeps cause answer = stopped why keeps cause
     where
       stopped : (why : Stop) → KeepsCall o.who o.holds c (step.Stopped why) o' → HasCause (Runs c at) (step.Stopped why) o'.work (seat_state s) (seat_state t) →
           (o'.work ≡ Idle) × (o'.holds ≡ held)
@@ -163,16 +188,16 @@ module _ (s t : Seated) (seat : t.who ≡ 1) (steady : s.region.failing.listed �
 
   -- what a step comes to
   step_came : (o o' : OpenerState) (work : Work) (r : Option Running) (own : List Event) (held : ℕ) (result : Step) → o.who ≡ 1 → o.holds ≡ held →
-      IsAt o work → FollowsWork work r → KeepsWork (record o { work = work }) result o' →
+      IsAt o work → FollowsWork work r → CountedAt work own result o'.work → KeepsWork (record o { work = work }) result o' →
       HasCause work result o'.work (seat_state s) (seat_state t) →
       OnAnswer result (λ a. IsAnswer a t.region.start t.region.past) → CameTo t.region.past held (option_map (going_on own) r) result o'
-  step_came o o' Idle None own held result one same is follows keeps cause answer =
+  step_came o o' Idle None own held result one same is follows n keeps cause answer =
       subst (λ x. CameTo t.region.past held None x o') (sym keeps.0) (subst (λ (x : OpenerState). FollowsWork x.work None × (x.holds ≡ held)) (sym keeps.1) (tt, same))
-  step_came o o' Idle (Some r) own held result one same is follows keeps cause answer = absurd follows
-  step_came o o' Ended None own held result one same is follows keeps cause answer = absurd follows
-  step_came o o' Ended (Some r) own held result one same is follows keeps cause answer = absurd follows
-  step_came o o' (Runs c at) None own held result one same is follows keeps cause answer = absurd follows
-  step_came o o' (Runs c at) (Some r) own held result one same is follows keeps cause answer = call_came o o' c at r own held result one same is follows keeps cause answer
+  step_came o o' Idle (Some r) own held result one same is follows n keeps cause answer = absurd follows
+  step_came o o' Ended None own held result one same is follows n keeps cause answer = absurd follows
+  step_came o o' Ended (Some r) own held result one same is follows n keeps cause answer = absurd follows
+  step_came o o' (Runs c at) None own held result one same is follows n keeps cause answer = absurd follows
+  step_came o o' (Runs c at) (Some r) own held result one same is follows n keeps cause answer = call_came o o' c at r own held result one same is follows n keeps cause answer
 
 pub follows_alive : (work : Work) (r : Option Running) → FollowsWork work r → is_ended work ≡ false
 follows_alive Idle r h = refl
@@ -384,6 +409,28 @@ module _ (s t : Seated) (o o' : OpenerState) where
       holds_of_same why c.call r.call c.now r.now c.begun (length (changes_of r.past)) t.region.start t.region.past (sym follows.call) (sym follows.moment) (sym follows.begun)
       (stopped_holds c at s t begun why cause found)
 
+-- what a step of opener 1 counts
+counted_at : (s t : Seated) → s.who ≡ 1 → (makes : MakesOne (seat_state s) (seat_state t)) → Lawful t.region.start t.region.past → (result : Step) (work after : Work) →
+    AddsTo 1 work result after (seat_state s) (seat_state t) → CountedAt work (made_by 1 (moved s t makes).own) result after
+counted_at s t one makes lawful result Idle after adds = tt
+counted_at s t one makes lawful result Ended after adds = tt
+counted_at s t one makes lawful result (Runs c at) after adds =
+    let m = moved s t makes in
+    let is : t.region.past ≡ made_by s.who adds.own ++ s.region.past = adds.grows.past ∙ ap (λ x. made_by s.who adds.own ++ (x ++ s.region.past)) (adds.grows.none refl) in
+    let events : made_by s.who adds.own ≡ made_by s.who m.own = append_cancel_right (made_by s.who adds.own) (made_by s.who m.own) s.region.past (sym is ∙ m.past) in
+    let locks : locks_taken (lock_after s.region.past s.who) (lock_after t.region.past t.who) ≡ locks_among (made_by s.who m.own) =
+    ap (λ p. locks_taken (lock_after s.region.past s.who) (lock_after p t.who)) m.past ∙ ap (λ w. locks_taken (lock_after s.region.past s.who) (lock_after (made_by s.who m.own ++ s.region.past) w)) m.who
+    ∙ own_locks s.region.start s.region.past s.who m.own m.few (subst (Lawful s.region.start) m.past (subst (λ x. Lawful x t.region.past) m.start lawful)) in
+    record {
+      loads = adds.loads;
+      stores = stores_in adds.own;
+      locks = locks_taken (seat_state s).holds (seat_state t).holds;
+      counts = adds.counts;
+      few = omega (arith, m.few, length-map m.own (event_by 1));
+      stores_are = stores_of_own s.who adds.own ∙ ap stores_among events ∙ ap (λ w. stores_among (made_by w m.own)) one;
+      locks_are = locks ∙ ap (λ w. locks_among (made_by w m.own)) one;
+    }
+
 -- one step more
 pub one_more : (start : Region) (past : List Event) (held : ℕ) (before : Option Running) (first : Work) (n : ℕ) (made : List Event)
     (o o' : OpenerState) (s t : Seated) (result : Step) →
@@ -397,7 +444,8 @@ one_more start past held before first n made o o' s t result st tied tied' makes
     let own = made_by 1 m.own in
     let grown : t.region.past ≡ own ++ s.region.past = m.past ∙ ap (λ w. made_by w m.own ++ s.region.past) st.seat in
     let seat : t.who ≡ 1 = m.who ∙ st.seat in
-    let came = step_came s t seat st.steady o o' o.work (option_map (going_on made) before) own held result st.who st.came.1 tied.at st.came.0 keeps cause answer in
+    let came = step_came s t seat st.steady o o' o.work (option_map (going_on made) before) own held result st.who st.came.1 tied.at st.came.0
+    (counted_at s t st.seat makes tied'.told.agrees.lawful result o.work o'.work (subst (λ w. AddsTo w o.work result o'.work (seat_state s) (seat_state t)) st.who adds)) keeps cause answer in
     let alive : has_died t.region.past t.who ≡ false =
     right_false (not (account_of t.region.accounts t.who).admitted) (has_died t.region.past t.who)
     (tied'.ended ∙ came_alive t.region.past held (option_map (going_on own) (option_map (going_on made) before)) result o' came) in

@@ -1,10 +1,13 @@
 -- What the lines of a script made so far. Parts and events stand with the latest first.
-use Rattle.std.specs.Prelude.{ℕ, ◌+◌, Bool, List, [], ◌∷◌, ◌++◌, Option, Some, None, length, not, option_map, option_and_then, nat_le, ◌==◌, ◌&&◌, if◌then◌else◌}
+use Rattle.std.specs.Prelude.{ℕ, ◌+◌, Bool, true, false, filter, List, [], ◌∷◌, ◌++◌, Option, Some, None, length, not, option_map, option_and_then, nat_le, ◌==◌, ◌&&◌, if◌then◌else◌}
 use Rattle.change_log.specs.declared.call.Answer.{Answer}
 use Rattle.change_log.specs.declared.call.Call.{Call}
+use Rattle.opener.specs.Adds.{is_store}
 use Rattle.opener.specs.Calls.{holds_after}
 use Rattle.region_words.specs.Past.{has_died}
 use Rattle.region_words.specs.declared.event.Event.{Event}
+use Rattle.region_words.specs.declared.event.What.{What}
+use Rattle.region_words.specs.declared.event.What.TheVariants.{Lock}
 use Rattle.script_lang.specs.declared.line.Line.{Line}
 use Rattle.script_lang.specs.declared.line.Line.TheVariants.{Open, Begin, Step, Die}
 use Rattle.script_lang.specs.declared.outcome.Outcome.{Outcome}
@@ -65,6 +68,17 @@ held_after _ who held = held
 abbrev pub holds_of : ℕ → List Part → ℕ
 holds_of who [] = 0
 holds_of who (p ∷ parts) = held_after p.outcome who (holds_of who parts)
+
+abbrev pub is_lock : What → Bool
+is_lock (Lock kind) = true
+is_lock _ = false
+
+-- how many of these events are stores, and how many take a lock
+abbrev pub stores_among : List Event → ℕ
+stores_among events = length (filter (λ e. is_store e.what) events)
+
+abbrev pub locks_among : List Event → ℕ
+locks_among events = length (filter (λ e. is_lock e.what) events)
 
 -- a call that runs: what was asked, the events before it began and those since
 pub record Running : Type 0 where

@@ -9,6 +9,7 @@ use Rattle.handlers.specs.declared.stock.HandlerStock.{HandlerStock}
 use Rattle.lock_rules.specs.Locks.{IsLeastAgainst}
 use Rattle.lock_rules.specs.declared.table.LockKind.{LockKind}
 use Rattle.opener.specs.Begins.{call_refusal}
+use Rattle.opener.specs.Counted.{counted}
 use Rattle.opener.specs.Plans.{refusal_of}
 use Rattle.opener.specs.declared.calls.Stop.{Stop}
 use Rattle.opener.specs.declared.calls.Stop.TheVariants as stop
@@ -26,7 +27,7 @@ use Rattle.script_lang.specs.declared.outcome.Outcome.{Outcome}
 use Rattle.script_lang.specs.declared.outcome.Outcome.TheVariants.{Answered, Blocked, Stopped}
 use Rattle.script_lang.specs.declared.outcome.Reason.{Reason}
 use Rattle.script_lang.specs.declared.outcome.Reason.TheVariants as reason
-use Rattle.mmkv_top.specs.Parts.{Part, past_of, lives, holds_of, strategies, Running, running, going_on}
+use Rattle.mmkv_top.specs.Parts.{Part, past_of, lives, holds_of, locks_among, stores_among, strategies, Running, running, going_on}
 
 -- how many handlers of each strategy a stock has
 pub record Stock : Type 0 where
@@ -70,7 +71,7 @@ MayCome stock parts (Next who now call) = ⊥
 abbrev pub AreSteps : ℕ → List Event → Type 0
 AreSteps who made = AllByRecursion (λ e. (e.who ≡ who) × (is_death e.what ≡ false)) made
 
--- the call is answered: the answer's place lies between its begin and its end
+-- the call is answered: the answer's place lies between its begin and its end, and it counts the call's stores and locks
 pub record IsAnsweredBy (past : List Event) (c : Running) (who : ℕ) (a : Answer) : Type 0 where
   pub by : a.who ≡ who
   pub call_is : a.call ≡ c.call
@@ -79,6 +80,8 @@ pub record IsAnsweredBy (past : List Event) (c : Running) (who : ℕ) (a : Answe
   pub place_begun : a.begun ≤ a.place
   pub place_ended : a.place ≤ a.ended
   pub ended : a.ended ≡ length (changes_of past)
+  pub stores : a.stores ≡ counted (stores_among c.since)
+  pub locks : a.locks ≡ counted (locks_among c.since)
 
 -- the reasons that are printed so far: damage and the switch of the expiry aren't there yet
 abbrev pub IsPrinted : Reason → Type 0

@@ -9,6 +9,7 @@ use Rattle.lock_rules.specs.Locks.{IsLeastAgainst}
 use Rattle.lock_rules.specs.declared.table.LockKind.{LockKind}
 use Rattle.opener.specs.Adds.{AreMade}
 use Rattle.opener.specs.Bound.{steps_left}
+use Rattle.opener.specs.Counted.{counted}
 use Rattle.opener.specs.Calls.{holds_after}
 use Rattle.opener.specs.Opener.{Tied, OnAnswer, IsAnswer}
 use Rattle.opener.specs.State.{OpenerState}
@@ -37,7 +38,7 @@ use Rattle.mmkv_top.specs.State.{PlayerState}
 use Rattle.mmkv_top.specs.Ending.{ending}
 use Rattle.mmkv_top.specs.declared.ending.Ending.{Ending}
 use Rattle.script_lang.specs.Texts.{line as text_line}
-use Rattle.mmkv_top.specs.Parts.{Part, lines_of, past_of, outcomes_of, answers_in, listed, strategies, holds_of, asked_of, Running, running, going_on}
+use Rattle.mmkv_top.specs.Parts.{Part, lines_of, past_of, outcomes_of, answers_in, listed, strategies, holds_of, asked_of, locks_among, stores_among, Running, running, going_on}
 use Rattle.mmkv_top.specs.Played.{Stock, ArePlayed, AreReasoned, AreSteps, IsAnsweredBy, WasRefused, reason_said}
 use Rattle.mmkv_top.specs.Play.{AreAnswered, AreInTime, IsWithin, AreLines, CanTake, IsFirstRefused, IsHalted, IsRefusedIn, not_yet}
 
@@ -46,6 +47,8 @@ pub record Follows (c : Call) (r : Running) : Type 0 where
   pub call : c.call ≡ r.call
   pub moment : c.now ≡ r.now
   pub begun : c.begun ≡ length (changes_of r.past)
+  pub stores : c.stores ≡ counted (stores_among r.since)
+  pub locks : c.locks ≡ counted (locks_among r.since)
 
 -- the opener runs the call that runs after the lines
 abbrev pub FollowsWork : Work → Option Running → Type 0
