@@ -49,7 +49,7 @@ counted_more (suc zero) k few = grind (arith, nat_tests)
 counted_more (suc (suc n)) k few = absurd (omega (arith, few))
 
 -- one list of events behind another
-filter_join : (p : Event → Bool) (xs ys : List Event) → length (filter p (xs ++ ys)) ≡ length (filter p xs) + length (filter p ys)
+pub filter_join : (p : Event → Bool) (xs ys : List Event) → length (filter p (xs ++ ys)) ≡ length (filter p xs) + length (filter p ys)
 filter_join p [] ys = let same : length (filter p ys) ≡ 0 + length (filter p ys) = omega arith in same
 filter_join p (x ∷ xs) ys = go (p x) (filter_join p xs ys)
   where

@@ -42,8 +42,8 @@ whole_played stock left start texts p count e ready taken text =
 pub ended_early : (stock : Stock) (start : Region) (texts : List (List ℕ)) (beyond : Bool) (number : ℕ) (why : Halt) (e : Ending) →
     HaltsAt stock start texts beyond number why → IsEndingAt number why e → IsEndedEarly stock start texts beyond e
 ended_early stock start texts beyond number halt.Refused e halts is = inl (number, halts, is)
-ended_early stock start texts beyond number halt.JournalFull e halts is = inr (inl (number, halts, is))
-ended_early stock start texts beyond number halt.NotWhole e halts is = inr (inr (number, halts, is))
+ended_early stock start texts beyond number halt.JournalFull e halts is = inr (inl (number, halts.0, halts.1, is))
+ended_early stock start texts beyond number halt.NotWhole e halts is = inr (inr (number, halts.0, halts.1, is))
 ended_early stock start texts beyond number halt.Memory e halts is = absurd is
 
 abbrev IsOneOf : Ending → Type 0
@@ -54,8 +54,8 @@ with_status e status text c is = subst IsOneOf (sym is) c
 
 early_status : (stock : Stock) (start : Region) (texts : List (List ℕ)) (beyond : Bool) (e : Ending) → IsEndedEarly stock start texts beyond e → IsOneOf e
 early_status stock start texts beyond e (inl h) = with_status e 9 (line (codes "script" ∷ decimal h.0 ∷ [])) refl h.2
-early_status stock start texts beyond e (inr (inl h)) = with_status e 16 (line (codes "journal" ∷ decimal h.0 ∷ [])) refl h.2
-early_status stock start texts beyond e (inr (inr h)) = with_status e 17 (codes "not yet\n") refl h.2
+early_status stock start texts beyond e (inr (inl h)) = with_status e 16 (line (codes "journal" ∷ decimal h.0 ∷ [])) refl h.3
+early_status stock start texts beyond e (inr (inr h)) = with_status e 17 (codes "not yet\n") refl h.3
 
 input_status : (stock : Stock) (start : Region) (left now : Option (List ℕ)) (e : Ending) → PlaysInput stock start left now e → IsOneOf e
 input_status stock start left now e (inl h) = elim h.2 [

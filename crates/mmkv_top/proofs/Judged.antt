@@ -12,8 +12,7 @@ use Rattle.mmkv_top.specs.Played.{Stock}
 use Rattle.mmkv_top.specs.Play.{AreAnswered, IsJournal}
 use Rattle.mmkv_top.specs.Player.{OpenerAt, IsAt, IsReady}
 use Rattle.mmkv_top.proofs.Answering.{nothing_answered}
-use Rattle.mmkv_top.proofs.Settled.{so_far_legal}
-use Rattle.mmkv_top.proofs.Settling.{legal_none}
+use Rattle.mmkv_top.proofs.Settled.{legal_none, so_far_legal}
 
 -- the parts that were played are a lawful journal, in which the answers stand
 pub journal_of : (stock left : Stock) (start : Region) (parts : List Part) (p : PlayerState) → IsReady p → IsAt stock left start parts p → IsJournal stock start parts
@@ -25,6 +24,7 @@ journal_of stock left start parts p ready at = go p.opener at.opener
       lawful = subst (Lawful start) (sym un.past) tt;
       in_time = at.in_time;
       reasoned = at.reasoned;
+      roomy = at.roomy;
       answers = subst (λ x. AreAnswered start x (answers_in (outcomes_of parts))) (sym un.past)
           (subst (λ x. AreAnswered start [] (answers_in x)) (sym un.outcomes) (nothing_answered start).are);
       legal = λ accepted apart. subst (λ x. Legal (base start) (changes_of x) (answers_in (outcomes_of parts))) (sym un.past)
@@ -37,6 +37,7 @@ journal_of stock left start parts p ready at = go p.opener at.opener
           lawful = lawful;
           in_time = at.in_time;
           reasoned = at.reasoned;
+          roomy = at.roomy;
           answers = op.answered.are;
-          legal = λ accepted apart. so_far_legal o.work start (past_of parts) (answers_in (outcomes_of parts)) op.ours lawful (op.settles accepted apart);
+          legal = λ accepted apart. so_far_legal o start (past_of parts) (answers_in (outcomes_of parts)) op.who op.ours lawful accepted apart op.settles;
         }

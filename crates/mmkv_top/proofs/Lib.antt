@@ -1,11 +1,14 @@
 mod Dumped
 mod Counting
 mod Reasoning
+mod Storing
 mod Stepping
 mod Answering
-mod Settling
 mod Settled
 mod InTime
+mod NoPlaces
+mod Seeing
+mod HandedOn
 mod LineEnds
 mod Opening
 mod Judged

@@ -157,30 +157,30 @@ pub quiet_reasoned : (start : Region) (p : Part) (parts : List Part) → p.outco
 quiet_reasoned start p parts none c who r runs is = let both : None ≡ Some (Stopped who r) = sym none ∙ is in absurd cc
 
 -- at its begin a call has found no stop
-reads_found : (holds : ℕ) (taken : Option LockKind) (c : Call) (next : Stage) (start : Region) (past : List Event) → Reads holds taken next → FoundIs (Runs c next) start past
-reads_found holds taken c next start past reads = go (lock_by holds taken) reads
+reads_stopless : (holds : ℕ) (taken : Option LockKind) (c : Call) (next : Stage) → Reads holds taken next → stop_found (Runs c next) ≡ None
+reads_stopless holds taken c next reads = go (lock_by holds taken) reads
   where
-    go : (lock : Option LockKind) → ReadsBy lock next → FoundIs (Runs c next) start past
-    go None is = subst (λ z. FoundIs (Runs c z) start past) (sym is) tt
-    go (Some kind) (loading, is, fresh) = subst (λ z. FoundIs (Runs c z) start past) (sym is) tt
+    go : (lock : Option LockKind) → ReadsBy lock next → stop_found (Runs c next) ≡ None
+    go None is = ap (λ z. stop_found (Runs c z)) is
+    go (Some kind) (loading, is, fresh) = ap (λ z. stop_found (Runs c z)) is
 
-first_found : (asked : Asked) (image : Option Image) (holds : ℕ) (c : Call) (next : Stage) (start : Region) (past : List Event) → IsFirst image holds asked next → FoundIs (Runs c next) start past
-first_found asked image holds c next start past first = go asked first
+first_stopless : (asked : Asked) (image : Option Image) (holds : ℕ) (c : Call) (next : Stage) → IsFirst image holds asked next → stop_found (Runs c next) ≡ None
+first_stopless asked image holds c next first = go asked first
   where
-    is : (to : Stage) → FoundIs (Runs c to) start past → next ≡ to → FoundIs (Runs c next) start past
-    is to f e = subst (λ z. FoundIs (Runs c z) start past) (sym e) f
+    is : (to : Stage) → stop_found (Runs c to) ≡ None → next ≡ to → stop_found (Runs c next) ≡ None
+    is to f e = ap (λ z. stop_found (Runs c z)) e ∙ f
 
-    notices : (image : Option Image) → Notices image holds None next → FoundIs (Runs c next) start past
-    notices None reads = reads_found holds None c next start past reads
-    notices (Some i) e = is stage.PeekChecksum tt e
+    notices : (image : Option Image) → Notices image holds None next → stop_found (Runs c next) ≡ None
+    notices None reads = reads_stopless holds None c next reads
+    notices (Some i) e = is stage.PeekChecksum refl e
 
-    plain : (b : Bool) → IsFirstPlain b image holds next → FoundIs (Runs c next) start past
-    plain true e = is stage.LockExclusive tt e
+    plain : (b : Bool) → IsFirstPlain b image holds next → stop_found (Runs c next) ≡ None
+    plain true e = is stage.LockExclusive refl e
     plain false n = notices image n
 
-    go : (asked : Asked) → IsFirst image holds asked next → FoundIs (Runs c next) start past
-    go call.Hold e = is stage.Hold tt e
-    go call.Release e = is stage.Release tt e
+    go : (asked : Asked) → IsFirst image holds asked next → stop_found (Runs c next) ≡ None
+    go call.Hold e = is stage.Hold refl e
+    go call.Release e = is stage.Release refl e
     go (call.Get key) f = plain (is_write (call.Get key) && (holds == 0)) f
     go (call.Put key value seconds) f = plain (is_write (call.Put key value seconds) && (holds == 0)) f
     go (call.Remove key) f = plain (is_write (call.Remove key) && (holds == 0)) f
@@ -191,6 +191,25 @@ first_found asked image holds c next start past first = go asked first
     go call.Disable f = plain (is_write call.Disable && (holds == 0)) f
     go call.Sync f = plain (is_write call.Sync && (holds == 0)) f
 
+pub begun_stopless : (asked : Asked) (now n : ℕ) (old new : OpenerState) → Begins asked now n old new → stop_found new.work ≡ None
+begun_stopless asked now n old new begins =
+    ap (λ (x : OpenerState). stop_found x.work) begins.work ∙ first_stopless asked old.image old.holds (begun_at asked now n) begins.next begins.first
+
+none_found : (work : Work) (start : Region) (past : List Event) → stop_found work ≡ None → FoundIs work start past
+none_found Idle start past none = tt
+none_found Ended start past none = tt
+none_found (Runs c (stage.Unlock (end.Stop why))) start past none = absurd cc
+none_found (Runs c (stage.Unlock (end.Answer place reply))) start past none = tt
+none_found (Runs c stage.PeekChecksum) start past none = tt
+none_found (Runs c (stage.PeekSequence peek)) start past none = tt
+none_found (Runs c stage.LockShared) start past none = tt
+none_found (Runs c stage.LockExclusive) start past none = tt
+none_found (Runs c (stage.Load loading)) start past none = tt
+none_found (Runs c stage.Size) start past none = tt
+none_found (Runs c (stage.Reserve plan)) start past none = tt
+none_found (Runs c (stage.Store plan)) start past none = tt
+none_found (Runs c stage.Hold) start past none = tt
+none_found (Runs c stage.Release) start past none = tt
+
 pub begin_found : (asked : Asked) (now n : ℕ) (old new : OpenerState) (start : Region) (past : List Event) → Begins asked now n old new → FoundIs new.work start past
-begin_found asked now n old new start past begins =
-    subst (λ (x : OpenerState). FoundIs x.work start past) (sym begins.work) (first_found asked old.image old.holds (begun_at asked now n) begins.next start past begins.first)
+begin_found asked now n old new start past begins = none_found new.work start past (begun_stopless asked now n old new begins)

@@ -2,16 +2,15 @@
 use Rattle.std.proofs.Common.{◌≡◌, ℕ, ◌+◌, ◌≤◌, Bool, true, false, List, [], ◌∷◌, ◌++◌, length, refl, sym, ap, ◌∙◌, inl, inr, arith, subst, append-nil, append_assoc, length-append, eq-eqb}
 use Rattle.std.proofs.lemmas.List.{append_cancel_right, length-map}
 use Rattle.std.specs.Prelude.{⊤, Option, Some, None, IfSome, option_map, not, ◌||◌, ◌&&◌, ◌==◌}
+use Rattle.std.specs.List.{AllByRecursion}
 use Rattle.std.specs.Option.{option_map_or}
-use Rattle.change_log.specs.Settled.{AreOfCall}
 use Rattle.change_log.specs.declared.call.Answer.{Answer}
-use Rattle.change_log.specs.declared.change.Change.{Change}
 use Rattle.lock_rules.specs.Locks.{IsLeastAgainst}
 use Rattle.opener.specs.Calls.{holds_after}
-use Rattle.opener.specs.Adds.{AddsTo, AreMade, AreMadeBy, Counts, IsRaised, IsRaisedIn, is_store, locks_taken, stores_in}
+use Rattle.opener.specs.Adds.{AddsTo, Counts, IsRaised, IsRaisedIn, is_store, locks_taken, stores_in}
 use Rattle.opener.specs.Bound.{Falls, steps_left}
-use Rattle.opener.specs.Writes.{commits_of}
-use Rattle.opener.specs.Opener.{Tied, MakesOne, KeepsWork, KeepsCall, HasCause, HasStopped, OnAnswer, IsAnswer, IsAnswerOf, RunsOn, IsAt, IsSeen, WorkIs, stop_found, is_ended}
+use Rattle.opener.specs.Settles.{IsSettledBy, Settles, answers_by}
+use Rattle.opener.specs.Opener.{Tied, MakesOne, KeepsWork, KeepsCall, HasCause, HasStopped, OnAnswer, IsAnswer, IsAnswerOf, RunsOn, HasReason, IsAt, IsSeen, Owes, WorkIs, is_ended, is_storing, lock_in, stop_found}
 use Rattle.opener.specs.State.{OpenerState}
 use Rattle.opener.specs.declared.calls.Step.{Step}
 use Rattle.opener.specs.declared.calls.Step.TheVariants as step
@@ -25,19 +24,23 @@ use Rattle.opener.specs.declared.work.Work.{Work}
 use Rattle.opener.specs.declared.work.Work.TheVariants.{Idle, Ended, Runs}
 use Rattle.region_words.specs.Lawful.{Lawful}
 use Rattle.region_words.specs.Region.{Region, file_size}
-use Rattle.region_words.specs.Past.{change_of, changes_of, region_after, locks_after, has_died, is_death}
+use Rattle.region_words.specs.Past.{changes_of, region_after, locks_after, has_died, is_death}
 use Rattle.region_words.specs.Local.{Seated, seat_state, account_of, lock_after}
-use Rattle.region_words.specs.Share.{Grows, ShareState, made_by}
-use Rattle.region_words.specs.Told.{History, OnBoth, OnTold}
+use Rattle.region_words.specs.Share.{ShareState, made_by}
+use Rattle.region_words.specs.Told.{History, OnTold}
 use Rattle.region_words.specs.declared.event.Event.{Event}
 use Rattle.region_words.specs.declared.event.What.{What}
 use Rattle.mmkv_top.specs.Parts.{Running, going_on, is_lock, locks_among, stores_among}
 use Rattle.mmkv_top.proofs.Counting.{count_goes_on, own_locks, stores_of_own}
-use Rattle.mmkv_top.specs.Played.{AreSteps, IsAnsweredBy}
+use Rattle.opener.specs.Quiet.{AreSteps}
+use Rattle.mmkv_top.specs.Played.{AsksFor, IsAnsweredBy, IsTooFull}
 use Rattle.region_words.proofs.ReadLaws.{changes_more}
 use Rattle.region_words.proofs.StaysFirm.{file_grows}
 use Rattle.mmkv_top.proofs.Reasoning.{found_later, going_found, holds_of_same, idle_found, stopped_holds}
-use Rattle.mmkv_top.specs.Player.{AreMadeOn, ChangesOn, FoundIs, StoppedIs, LeavesFewer, Follows, FollowsWork, CameTo, Stepped}
+use Rattle.mmkv_top.proofs.NoPlaces.{at_stop, found_none, reason_now, too_full}
+use Rattle.mmkv_top.proofs.Storing.{step_stored}
+use Rattle.mmkv_top.proofs.Seeing.{going_saw, saw_still, stopped_saw}
+use Rattle.mmkv_top.specs.Player.{AreSettledAt, FoundIs, FoundSaw, HasStored, IsUnfull, MetFull, StoppedFull, StoppedIs, StoppedSaw, LeavesFewer, Follows, FollowsWork, CameTo, Stepped}
 
 -- what a call on the seat made
 record Moved (s t : Seated) : Type 0 where
@@ -47,6 +50,7 @@ record Moved (s t : Seated) : Type 0 where
   start : t.region.start ≡ s.region.start
   past : t.region.past ≡ made_by s.who own ++ s.region.past
   listed : t.region.failing.listed ≡ s.region.failing.listed
+  admitted : (w : ℕ) → (account_of t.region.accounts w).admitted ≡ (account_of s.region.accounts w).admitted
 
 moved : (s t : Seated) → MakesOne (seat_state s) (seat_state t) → Moved s t
 moved s t (inl same) =
@@ -57,6 +61,7 @@ moved s t (inl same) =
       start = ap (λ (x : ShareState). option_map_or (λ (h : History). h.start) x.told s.region.start) same;
       past = ap (λ (x : ShareState). option_map_or (λ (h : History). h.past) x.told []) same;
       listed = ap (λ (x : ShareState). option_map_or (λ (l : List ℕ). l) x.fails []) same;
+      admitted = λ w. ap (λ (x : ShareState). x.admitted w) same;
     }
 moved s t (inr h) =
     record {
@@ -66,6 +71,7 @@ moved s t (inr h) =
       start = h.1.told.start;
       past = h.1.told.past ∙ ap (λ x. made_by s.who h.0.own ++ (x ++ s.region.past)) (h.1.told.none refl);
       listed = ap (λ o. option_map_or (λ (l : List ℕ). l) o []) h.1.same.fails;
+      admitted = h.1.same.admitted;
     }
 
 pub right_false : (a b : Bool) → (a || b) ≡ false → b ≡ false
@@ -76,6 +82,10 @@ left_false : (a b : Bool) → (a || b) ≡ false → a ≡ false
 left_false true b h = h
 left_false false b h = refl
 
+no_death : (a b : Bool) → a ≡ true → (a && b) ≡ false → b ≡ false
+no_death true b e h = h
+no_death false b e h = absurd cc
+
 -- none of an opener's own events is its death where it lives on
 own_steps : (who : ℕ) (own : List What) (past : List Event) → has_died (made_by who own ++ past) who ≡ false → AreSteps who (made_by who own)
 own_steps who [] past h = tt
@@ -83,10 +93,14 @@ own_steps who (what ∷ own) past h = (
   (refl, no_death (who == who) (is_death what) (eq-eqb who who refl) (left_false ((who == who) && is_death what) (has_died (made_by who own ++ past) who) h)),
   own_steps who own past (right_false ((who == who) && is_death what) (has_died (made_by who own ++ past) who) h),
 )
-  where
-    no_death : (a b : Bool) → a ≡ true → (a && b) ≡ false → b ≡ false
-    no_death true b e h = h
-    no_death false b e h = absurd cc
+
+-- and so it is of all events where none is of another
+pub all_own : (past : List Event) → AllByRecursion (λ e. e.who ≡ 1) past → has_died past 1 ≡ false → AreSteps 1 past
+all_own [] ours alive = tt
+all_own (e ∷ past) ours alive = (
+  (ours.0, no_death (e.who == 1) (is_death e.what) (eq-eqb e.who 1 ours.0) (left_false ((e.who == 1) && is_death e.what) (has_died past 1) alive)),
+  all_own past ours.1 (right_false ((e.who == 1) && is_death e.what) (has_died past 1) alive),
+)
 
 steps_join : (who : ℕ) (xs ys : List Event) → AreSteps who xs → AreSteps who ys → AreSteps who (xs ++ ys)
 steps_join who [] ys h k = k
@@ -239,76 +253,15 @@ going_twice own made (Some r) = ap (λ x. Some (record r { since = x })) (sym (a
 abbrev event_by : ℕ → What → Event
 event_by who what = record { who = who; what = what }
 
--- the changes of one event more
-grown_changes : (who : ℕ) (own : List What) (past : List Event) → length own ≤ 1 → changes_of (made_by who own ++ past) ≡ changes_of past ++ commits_of own
-grown_changes who [] past few = sym (append-nil (changes_of past))
-grown_changes who (x ∷ []) past few = ap (λ l. changes_of past ++ l) (sym (append-nil (change_of x)))
-grown_changes who (x ∷ y ∷ own) past few = absurd (omega (arith, few))
-
-module _ (s t : Seated) (makes : MakesOne (seat_state s) (seat_state t)) (steady : s.region.failing.listed ≡ []) where
-  -- what was made by the step of a call
-  made_on : (o o' : OpenerState) (c : Call) (at : Stage) (result : Step) (made : List Change) → o.who ≡ 1 → IsAt o (Runs c at) → KeepsCall o.who o.holds c result o' →
-      HasCause (Runs c at) result o'.work (seat_state s) (seat_state t) → AreMadeBy 1 c result o'.work made → AreMadeOn result o'.work made
-  made_on o o' c at step.Idle made one is keeps cause are = absurd keeps
-  made_on o o' c at step.Going made one is keeps cause are = are
-  made_on o o' c at step.Again made one is keeps cause are = are
-  made_on o o' c at (step.Blocked holder) made one is keeps cause are = are
-  made_on o o' c at (step.Answered a) made one is keeps cause are =
-      subst (λ x. AreOfCall 1 x a.now made) (sym keeps.0.call_is) (subst (λ n. AreOfCall 1 c.call n made) (sym keeps.0.moment) are)
-  made_on o o' c at (step.Stopped stop.Fault) made one is keeps cause are = absurd (no_fault (stop_found (Runs c at)) (Runs c at) s t (found_seen o (Runs c at) is) steady cause)
-  made_on o o' c at (step.Stopped stop.Memory) made one is keeps cause are = are
-  made_on o o' c at (step.Stopped stop.JournalFull) made one is keeps cause are = are
-  made_on o o' c at (step.Stopped (stop.NotWhole seen)) made one is keeps cause are = are
-  made_on o o' c at (step.Stopped (stop.Version n)) made one is keeps cause are = are
-  made_on o o' c at (step.Stopped (stop.Flags n)) made one is keeps cause are = are
-  made_on o o' c at (step.Stopped (stop.Full need)) made one is keeps cause are = are
-  made_on o o' c at (step.Stopped stop.SequenceEnd) made one is keeps cause are = are
-  made_on o o' c at (step.Stopped stop.ExpiryOff) made one is keeps cause are = are
-  made_on o o' c at (step.Stopped stop.ExpiryRange) made one is keeps cause are = are
-
-  -- the changes of a step
-  step_commits : (own : List What) → OnBoth (seat_state s).told (seat_state t).told (Grows s.who true own) → changes_of t.region.past ≡ changes_of s.region.past ++ commits_of own
-  step_commits own grows =
-      let m = moved s t makes in
-      let is : t.region.past ≡ made_by s.who own ++ s.region.past = grows.past ∙ ap (λ x. made_by s.who own ++ (x ++ s.region.past)) (grows.none refl) in
-      let same : length (made_by s.who own ++ s.region.past) ≡ length (made_by s.who m.own ++ s.region.past) = ap length (sym is ∙ m.past) in
-      let few : length own ≤ 1 =
-      omega (arith, same, length-append (made_by s.who own) s.region.past, length-append (made_by s.who m.own) s.region.past, length-map own (event_by s.who), length-map m.own (event_by s.who), m.few) in
-      ap changes_of is ∙ grown_changes s.who own s.region.past few
-
-  -- and what was made since the line began
-  step_changed : (past : List Event) (first : Work) (o o' : OpenerState) (work : Work) (result : Step) → o.who ≡ 1 → IsAt o work →
-      AddsTo 1 work result o'.work (seat_state s) (seat_state t) → KeepsWork (record o { work = work }) result o' → HasCause work result o'.work (seat_state s) (seat_state t) →
-      ChangesOn first step.Going work past s.region.past → ChangesOn first result o'.work past t.region.past
-  step_changed past first o o' Idle result one is adds keeps cause on = still keeps on adds
-    where
-      still : (result ≡ step.Idle) × (o' ≡ record o { work = Idle }) → ChangesOn first step.Going Idle past s.region.past → seat_state t ≡ seat_state s →
-          ChangesOn first result o'.work past t.region.past
-      still keeps on same so_far are =
-          let now = on so_far are in
-          let stays : t.region.past ≡ s.region.past = ap (λ (x : ShareState). option_map_or (λ (h : History). h.past) x.told []) same in (
-            now.0,
-            ap changes_of stays ∙ now.1,
-            subst (λ r. AreMadeOn r o'.work (so_far ++ now.0)) (sym keeps.0) (subst (λ (x : OpenerState). AreMade 1 x.work (so_far ++ now.0)) (sym keeps.1) now.2),
-          )
-  step_changed past first o o' Ended result one is adds keeps cause on = still keeps on adds
-    where
-      still : (result ≡ step.Idle) × (o' ≡ record o { work = Ended }) → ChangesOn first step.Going Ended past s.region.past → seat_state t ≡ seat_state s →
-          ChangesOn first result o'.work past t.region.past
-      still keeps on same so_far are =
-          let now = on so_far are in
-          let stays : t.region.past ≡ s.region.past = ap (λ (x : ShareState). option_map_or (λ (h : History). h.past) x.told []) same in (
-            now.0,
-            ap changes_of stays ∙ now.1,
-            subst (λ r. AreMadeOn r o'.work (so_far ++ now.0)) (sym keeps.0) (subst (λ (x : OpenerState). AreMade 1 x.work (so_far ++ now.0)) (sym keeps.1) now.2),
-          )
-  step_changed past first o o' (Runs c at) result one is adds keeps cause on = λ so_far are.
-      let now = on so_far are in
-      let made = adds.made (so_far ++ now.0) now.2 in (
-        now.0 ++ commits_of adds.own,
-        step_commits adds.own adds.grows ∙ ap (λ l. l ++ commits_of adds.own) now.1 ∙ append_assoc (changes_of past) now.0 (commits_of adds.own),
-        subst (AreMadeOn result o'.work) (append_assoc so_far now.0 (commits_of adds.own)) (made_on o o' c at result ((so_far ++ now.0) ++ commits_of adds.own) one is keeps cause made),
-      )
+-- what was answered since the line began is settled after one step more
+step_settled : (start : Region) (past : List Event) (first : Work) (o o' : OpenerState) (s t : Seated) (result : Step) → o.who ≡ 1 → o'.who ≡ 1 →
+    ((answers : List Answer) → AreSettledAt first start past answers → AreSettledAt o.work s.region.start s.region.past (answers ++ answers_by step.Going)) →
+    Settles o result o' (seat_state s) (seat_state t) →
+    (answers : List Answer) → AreSettledAt first start past answers → AreSettledAt o'.work t.region.start t.region.past (answers ++ answers_by result)
+step_settled start past first o o' s t result one still so_far settles answers settled =
+    let before : AreSettledAt o.work s.region.start s.region.past answers = subst (AreSettledAt o.work s.region.start s.region.past) (append-nil answers) (so_far answers settled) in
+    let after = settles answers (λ ok apart. subst (λ w. IsSettledBy w o.work s.region.start s.region.past answers) (sym one) (before ok apart)) in
+    λ ok apart. subst (λ w. IsSettledBy w o'.work t.region.start t.region.past (answers ++ answers_by result)) still (after ok apart)
 
 -- one step fewer is left after each that goes on
 step_fewer : (s t : Seated) → MakesOne (seat_state s) (seat_state t) → (first work after : Work) (n : ℕ) (result : Step) → Lawful t.region.start t.region.past →
@@ -409,6 +362,108 @@ module _ (s t : Seated) (o o' : OpenerState) where
       holds_of_same why c.call r.call c.now r.now c.begun (length (changes_of r.past)) t.region.start t.region.past (sym follows.call) (sym follows.moment) (sym follows.begun)
       (stopped_holds c at s t begun why cause found)
 
+idle_is : (work : Work) → FollowsWork work None → work ≡ Idle
+idle_is Idle follows = refl
+idle_is Ended follows = absurd follows
+idle_is (Runs c at) follows = absurd follows
+
+-- what holds of an opener without a call, and held before the step, holds after it unless the step goes on
+over_work : (P : Work → Type 0) (work : Work) (past : List Event) (held : ℕ) (r : Option Running) (result : Step) (o : OpenerState) (t : ShareState) → P Idle → P work → (result ≡ step.Going → P o.work) →
+    CameTo past held r result o → Falls work result o.work t → P o.work
+over_work P work past held r step.Going o t idle before going came falls = going refl
+over_work P work past held None step.Idle o t idle before going came falls = subst P (sym (idle_is o.work came.0)) idle
+over_work P work past held (Some r) (step.Blocked holder) o t idle before going came same = subst P (sym same) before
+over_work P work past held (Some r) (step.Answered a) o t idle before going came falls = subst P (sym came.0) idle
+over_work P work past held (Some r) (step.Stopped why) o t idle before going came falls = subst P (sym came.0) idle
+over_work P work past held None step.Again o t idle before going came falls = absurd came
+over_work P work past held None (step.Blocked holder) o t idle before going came falls = absurd came
+over_work P work past held None (step.Answered a) o t idle before going came falls = absurd came
+over_work P work past held None (step.Stopped why) o t idle before going came falls = absurd came
+over_work P work past held (Some r) step.Idle o t idle before going came falls = absurd came
+over_work P work past held (Some r) step.Again o t idle before going came falls = absurd came
+
+-- what a step saw
+module _ (s t : Seated) (o o' : OpenerState) (tied : Tied o' (seat_state t)) (seat : t.who ≡ 1) (alone : AreSteps 1 t.region.past) (steady : s.region.failing.listed ≡ []) where
+  going_finds : (work : Work) (result : Step) → result ≡ step.Going → KeepsWork (record o { work = work }) result o' → HasCause work result o'.work (seat_state s) (seat_state t) →
+      FoundSaw o'.work t.region.start t.region.past
+  going_finds Idle result going keeps cause = let never : step.Going ≡ step.Idle = sym going ∙ keeps.0 in absurd cc
+  going_finds Ended result going keeps cause = let never : step.Going ≡ step.Idle = sym going ∙ keeps.0 in absurd cc
+  going_finds (Runs c at) result going keeps cause =
+      going_saw o' s t c at tied seat alone steady (subst (λ x. HasCause (Runs c at) x o'.work (seat_state s) (seat_state t)) going cause)
+
+  step_saw : (work : Work) (held : ℕ) (r : Option Running) (result : Step) → FoundSaw work t.region.start t.region.past → CameTo t.region.past held r result o' →
+      KeepsWork (record o { work = work }) result o' → HasCause work result o'.work (seat_state s) (seat_state t) → Falls work result o'.work (seat_state t) →
+      FoundSaw o'.work t.region.start t.region.past
+  step_saw work held r result saw came keeps cause falls =
+      over_work (λ w. FoundSaw w t.region.start t.region.past) work t.region.past held r result o' (seat_state t) tt saw (λ going. going_finds work result going keeps cause) came falls
+
+  step_stopped_saw : (work : Work) (own made : List Event) (held : ℕ) (r : Option Running) (result : Step) → FoundSaw work t.region.start t.region.past →
+      FollowsWork work (option_map (going_on made) r) → CameTo t.region.past held (option_map (going_on own) (option_map (going_on made) r)) result o' →
+      HasCause work result o'.work (seat_state s) (seat_state t) → StoppedSaw result t.region.start t.region.past
+  step_stopped_saw work own made held r step.Idle saw follows came cause = tt
+  step_stopped_saw work own made held r step.Going saw follows came cause = tt
+  step_stopped_saw work own made held r step.Again saw follows came cause = tt
+  step_stopped_saw work own made held r (step.Blocked holder) saw follows came cause = tt
+  step_stopped_saw work own made held r (step.Answered a) saw follows came cause = tt
+  step_stopped_saw work own made held None (step.Stopped why) saw follows came cause = absurd came
+  step_stopped_saw Idle own made held (Some r) (step.Stopped why) saw follows came cause = absurd follows
+  step_stopped_saw Ended own made held (Some r) (step.Stopped why) saw follows came cause = absurd follows
+  step_stopped_saw (Runs c at) own made held (Some r) (step.Stopped why) saw follows came cause =
+      stopped_saw o' s t tied (ap is_storing came.0) seat alone c at (stop_found (Runs c at)) why steady saw cause
+
+saw_moved : (s t : Seated) → MakesOne (seat_state s) (seat_state t) → (work : Work) → FoundSaw work s.region.start s.region.past → FoundSaw work t.region.start t.region.past
+saw_moved s t makes work f =
+    let m = moved s t makes in
+    subst (λ x. FoundSaw work x t.region.past) (sym m.start)
+    (subst (λ p. FoundSaw work s.region.start p) (sym m.past) (saw_still work s.region.start (made_by s.who m.own) s.region.past f))
+
+-- a call that found no places had made these events
+module _ (start : Region) (past : List Event) (held : ℕ) (before : Option Running) (first : Work) (n count : ℕ) (made : List Event) (o o' : OpenerState) (s t : Seated)
+    (below : n + 1 ≤ count) (st : Stepped start past held before first n step.Going made o s) (makes : MakesOne (seat_state s) (seat_state t)) (tied' : Tied o' (seat_state t)) where
+  met_full : (seat_state t).reserved t.who ≡ 0 → (work : Work) (b : Option Running) (result : Step) → before ≡ b → (result ≡ step.Idle → ⊥) → (seat_state s).holds ≡ lock_in o.holds work → IsAt o work → FollowsWork work (option_map (going_on made) b) →
+      KeepsWork (record o { work = work }) result o' → HasReason work stop.JournalFull (seat_state s) (seat_state t) → MetFull start past before count
+  met_full none Idle b result is busy holds at follows keeps reason = absurd (busy keeps.0)
+  met_full none Ended b result is busy holds at follows keeps reason = absurd (busy keeps.0)
+  met_full none (Runs c at) None result is busy holds is_at follows keeps reason = absurd follows
+  met_full none (Runs c at) (Some r) result is busy holds is_at follows keeps reason =
+      let m = moved s t makes in
+      let seat : t.who ≡ 1 = m.who ∙ st.seat in
+      let f = found_none o c at r s t st.seat seat holds is_at follows.call follows.moment reason in
+      let grows = f.stays.after.told in
+      let here : t.region.start ≡ start = grows.start ∙ st.start_is in
+      let same : t.region.past ≡ made ++ past = grows.past ∙ ap (λ x. x ++ s.region.past) (grows.none refl) ∙ st.past_is in
+      let full : IsTooFull 1 t.region.past f.asked = too_full t f.asked (λ w. m.admitted w ∙ st.only w) tied'.told.agrees (subst (λ w. (seat_state t).reserved w ≡ 0) seat none) f.full in
+      record {
+        call = r;
+        runs = is;
+        made = made;
+        few = omega (arith, st.few, below);
+        own = st.own;
+        asked = f.asked;
+        asks = subst (λ x. AsksFor x 1 r (made ++ past) f.asked) here (subst (λ p. AsksFor t.region.start 1 r p f.asked) same f.asks);
+        full = subst (λ p. IsTooFull 1 p f.asked) same full;
+      }
+
+  step_full : (r : Option Running) (result : Step) → CameTo t.region.past held r result o' → Tied o (seat_state s) → KeepsWork o result o' → HasCause o.work result o'.work (seat_state s) (seat_state t) → StoppedFull result start past before count
+  step_full r step.Idle came tied keeps cause = tt
+  step_full r step.Going came tied keeps cause = tt
+  step_full r step.Again came tied keeps cause = tt
+  step_full r (step.Blocked holder) came tied keeps cause = tt
+  step_full r (step.Answered a) came tied keeps cause = tt
+  step_full None (step.Stopped stop.JournalFull) came tied keeps cause = absurd came
+  step_full (Some r) (step.Stopped stop.JournalFull) came tied keeps cause =
+      met_full (subst (λ w. Owes o' w (seat_state t)) came.0 tied'.owes) o.work before (step.Stopped stop.JournalFull) refl (λ e. absurd cc) tied.holds tied.at st.came.0 keeps
+      (reason_now (stop_found o.work) o.work (seat_state s) (seat_state t) st.unfull cause)
+  step_full r (step.Stopped stop.Fault) came tied keeps cause = tt
+  step_full r (step.Stopped stop.Memory) came tied keeps cause = tt
+  step_full r (step.Stopped (stop.NotWhole seen)) came tied keeps cause = tt
+  step_full r (step.Stopped (stop.Version n)) came tied keeps cause = tt
+  step_full r (step.Stopped (stop.Flags n)) came tied keeps cause = tt
+  step_full r (step.Stopped (stop.Full need)) came tied keeps cause = tt
+  step_full r (step.Stopped stop.SequenceEnd) came tied keeps cause = tt
+  step_full r (step.Stopped stop.ExpiryOff) came tied keeps cause = tt
+  step_full r (step.Stopped stop.ExpiryRange) came tied keeps cause = tt
+
 -- what a step of opener 1 counts
 counted_at : (s t : Seated) → s.who ≡ 1 → (makes : MakesOne (seat_state s) (seat_state t)) → Lawful t.region.start t.region.past → (result : Step) (work after : Work) →
     AddsTo 1 work result after (seat_state s) (seat_state t) → CountedAt work (made_by 1 (moved s t makes).own) result after
@@ -431,15 +486,23 @@ counted_at s t one makes lawful result (Runs c at) after adds =
       locks_are = locks ∙ ap (λ w. locks_among (made_by w m.own)) one;
     }
 
+-- the stores of a step are those of its events
+stores_made : (s t : Seated) → s.who ≡ 1 → (makes : MakesOne (seat_state s) (seat_state t)) (own : List What) → made_by s.who own ++ s.region.past ≡ t.region.past →
+    stores_among (made_by 1 (moved s t makes).own) ≡ stores_in own
+stores_made s t one makes own is =
+    let m = moved s t makes in
+    let events : made_by s.who own ≡ made_by s.who m.own = append_cancel_right (made_by s.who own) (made_by s.who m.own) s.region.past (is ∙ m.past) in
+    sym (stores_of_own s.who own ∙ ap stores_among events ∙ ap (λ w. stores_among (made_by w m.own)) one)
+
 -- one step more
 pub one_more : (start : Region) (past : List Event) (held : ℕ) (before : Option Running) (first : Work) (n : ℕ) (made : List Event)
     (o o' : OpenerState) (s t : Seated) (result : Step) →
     Stepped start past held before first n step.Going made o s → Tied o (seat_state s) → Tied o' (seat_state t) →
     MakesOne (seat_state s) (seat_state t) → AddsTo o.who o.work result o'.work (seat_state s) (seat_state t) → KeepsWork o result o' →
     HasCause o.work result o'.work (seat_state s) (seat_state t) → Falls o.work result o'.work (seat_state t) →
-    OnAnswer result (λ a. OnTold (seat_state t).told (λ h. IsAnswer a h.start h.past)) →
-    (more : List Event) × Stepped start past held before first (n + 1) result more o' t
-one_more start past held before first n made o o' s t result st tied tied' makes adds keeps cause falls answer =
+    OnAnswer result (λ a. OnTold (seat_state t).told (λ h. IsAnswer a h.start h.past)) → (result ≡ step.Going → IsUnfull o'.work) →
+    Settles o result o' (seat_state s) (seat_state t) → (more : List Event) × Stepped start past held before first (n + 1) result more o' t
+one_more start past held before first n made o o' s t result st tied tied' makes adds keeps cause falls answer unfull settles =
     let m = moved s t makes in
     let own = made_by 1 m.own in
     let grown : t.region.past ≡ own ++ s.region.past = m.past ∙ ap (λ w. made_by w m.own ++ s.region.past) st.seat in
@@ -450,7 +513,9 @@ one_more start past held before first n made o o' s t result st tied tied' makes
     right_false (not (account_of t.region.accounts t.who).admitted) (has_died t.region.past t.who)
     (tied'.ended ∙ came_alive t.region.past held (option_map (going_on own) (option_map (going_on made) before)) result o' came) in
     let alive_now : has_died (own ++ s.region.past) 1 ≡ false = sym (ap (λ x. has_died x 1) grown) ∙ sym (ap (has_died t.region.past) seat) ∙ alive in
-    let begun_now = begun_later s t makes o.work (begun_of o s tied) in (
+    let begun_now = begun_later s t makes o.work (begun_of o s tied) in
+    let alone : AreSteps 1 t.region.past = subst (AreSteps 1) (sym grown) (steps_join 1 own s.region.past (own_steps 1 m.own s.region.past alive_now) st.alone) in
+    let goes_by = option_map (going_on own) (option_map (going_on made) before) in (
       own ++ made,
       record {
         few = omega (arith, length-append own made, length-map m.own (event_by 1), m.few, st.few);
@@ -464,10 +529,19 @@ one_more start past held before first n made o o' s t result st tied tied' makes
         steady = m.listed ∙ st.steady;
         answer = answer;
         came = subst (λ r. CameTo t.region.past held r result o') (going_twice own made before) came;
-        changed = step_changed s t makes st.steady past first o o' o.work result st.who tied.at (subst (λ w. AddsTo w o.work result o'.work (seat_state s) (seat_state t)) st.who adds) keeps cause st.changed;
+        settled = step_settled start past first o o' s t result st.who (sym tied'.who ∙ seat) st.settled settles;
         fewer = step_fewer s t makes first o.work o'.work n result tied'.told.agrees.lawful falls st.fewer;
         found = step_found s t o o' o.work result (moved_later s t makes o.work st.found) begun_now keeps cause falls;
         stopped = step_stopped s t o o' o.work result made before (moved_later s t makes o.work st.found) begun_now st.came.0 keeps cause;
+        alone = alone;
+        only = λ w. m.admitted w ∙ st.only w;
+        saw = step_saw s t o o' tied' seat alone st.steady o.work held goes_by result (saw_moved s t makes o.work st.saw) came keeps cause falls;
+        stopped_saw = step_stopped_saw s t o o' tied' seat alone st.steady o.work own made held before result (saw_moved s t makes o.work st.saw) st.came.0 came cause;
+        unfull = over_work IsUnfull o.work t.region.past held goes_by result o' (seat_state t) (λ e. absurd cc) st.unfull unfull came falls;
+        stored = subst (HasStored result o'.work) (going_twice own made before)
+            (step_stored s t o.work o'.work result (option_map (going_on made) before) own st.came.0 (subst (λ w. AddsTo w o.work result o'.work (seat_state s) (seat_state t)) st.who adds)
+            (λ whats is. stores_made s t st.seat makes whats is) st.stored);
+        full = step_full start past held before first n (n + 1) made o o' s t (omega arith) st makes tied' goes_by result came tied keeps cause;
       },
     )
 
@@ -488,12 +562,37 @@ at_most start past held before first n count result made o s below all st =
       steady = st.steady;
       answer = st.answer;
       came = st.came;
-      changed = st.changed;
+      settled = st.settled;
       fewer = go result all st.fewer;
       found = st.found;
       stopped = st.stopped;
+      alone = st.alone;
+      only = st.only;
+      saw = st.saw;
+      stopped_saw = st.stopped_saw;
+      unfull = st.unfull;
+      full = met_by result st.full;
+      stored = st.stored;
     }
   where
+    met_by : (last : Step) → StoppedFull last start past before n → StoppedFull last start past before count
+    met_by step.Idle full = tt
+    met_by step.Going full = tt
+    met_by step.Again full = tt
+    met_by (step.Blocked holder) full = tt
+    met_by (step.Answered a) full = tt
+    met_by (step.Stopped stop.JournalFull) f =
+        record { call = f.call; runs = f.runs; made = f.made; few = omega (arith, f.few, below); own = f.own; asked = f.asked; asks = f.asks; full = f.full }
+    met_by (step.Stopped stop.Fault) full = tt
+    met_by (step.Stopped stop.Memory) full = tt
+    met_by (step.Stopped (stop.NotWhole seen)) full = tt
+    met_by (step.Stopped (stop.Version v)) full = tt
+    met_by (step.Stopped (stop.Flags v)) full = tt
+    met_by (step.Stopped (stop.Full need)) full = tt
+    met_by (step.Stopped stop.SequenceEnd) full = tt
+    met_by (step.Stopped stop.ExpiryOff) full = tt
+    met_by (step.Stopped stop.ExpiryRange) full = tt
+
     size_now : ℕ
     size_now = file_size (region_after s.region.start s.region.past)
 
@@ -511,10 +610,22 @@ pub step_more : (count n : ℕ) (o1 : OpenerState) (s1 : Seated) (o o' : OpenerS
     (made : List Event) × Stepped start past held before o1.work n step.Going made o s) → Tied o (seat_state s) → Tied o' (seat_state t) →
     MakesOne (seat_state s) (seat_state t) → AddsTo o.who o.work result o'.work (seat_state s) (seat_state t) → KeepsWork o result o' →
     HasCause o.work result o'.work (seat_state s) (seat_state t) → Falls o.work result o'.work (seat_state t) →
-    OnAnswer result (λ a. OnTold (seat_state t).told (λ h. IsAnswer a h.start h.past)) →
-    (start : Region) (past : List Event) (held : ℕ) (before : Option Running) → Stepped start past held before o1.work 0 step.Going [] o1 s1 →
+    OnAnswer result (λ a. OnTold (seat_state t).told (λ h. IsAnswer a h.start h.past)) → (result ≡ step.Going → IsUnfull o'.work) →
+    Settles o result o' (seat_state s) (seat_state t) → (start : Region) (past : List Event) (held : ℕ) (before : Option Running) → Stepped start past held before o1.work 0 step.Going [] o1 s1 →
     (made : List Event) × Stepped start past held before o1.work count result made o' t
-step_more count n o1 s1 o o' s t result below all so_far tied tied' makes adds keeps cause falls answer start past held before first =
+step_more count n o1 s1 o o' s t result below all so_far tied tied' makes adds keeps cause falls answer unfull settles start past held before first =
     let now = so_far start past held before first in
-    let next = one_more start past held before o1.work n now.0 o o' s t result now.1 tied tied' makes adds keeps cause falls answer in
+    let next = one_more start past held before o1.work n now.0 o o' s t result now.1 tied tied' makes adds keeps cause falls answer unfull settles in
     (next.0, at_most start past held before o1.work (n + 1) count result next.0 o' t below all next.1)
+
+-- a step that goes on, but has found no places for what it wants
+pub full_met : (count n : ℕ) (o1 : OpenerState) (s1 : Seated) (o o' : OpenerState) (s t : Seated) → n + 1 ≤ count →
+    ((start : Region) (past : List Event) (held : ℕ) (before : Option Running) → Stepped start past held before o1.work 0 step.Going [] o1 s1 →
+    (made : List Event) × Stepped start past held before o1.work n step.Going made o s) → Tied o (seat_state s) → Tied o' (seat_state t) →
+    MakesOne (seat_state s) (seat_state t) → KeepsWork o step.Going o' → HasCause o.work step.Going o'.work (seat_state s) (seat_state t) → stop_found o'.work ≡ Some stop.JournalFull →
+    (start : Region) (past : List Event) (held : ℕ) (before : Option Running) → Stepped start past held before o1.work 0 step.Going [] o1 s1 → MetFull start past before count
+full_met count n o1 s1 o o' s t below so_far tied tied' makes keeps cause found start past held before first =
+    let now = so_far start past held before first in
+    met_full start past held before o1.work n count now.0 o o' s t below now.1 makes tied' ((at_stop o' o'.work (seat_state t) stop.JournalFull found).1 tied'.owes)
+    o.work before step.Going refl (λ e. absurd cc) tied.holds tied.at now.1.came.0 keeps
+    (subst (λ x. IfSome x (λ why. HasReason o.work why (seat_state s) (seat_state t))) found cause)

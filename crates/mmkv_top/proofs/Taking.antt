@@ -23,8 +23,8 @@ text_takes stock left start parts count text q line (Ok x) few short is takes = 
 text_takes stock left start parts count text q line (Err halt.Refused) few short is takes =
     inr (inr (λ other reads can. takes (subst (CanTake stock parts) (names_one_thing text other line reads is) can)))
 text_takes stock left start parts count text q line (Err halt.Memory) few short is takes = tt
-text_takes stock left start parts count text q line (Err halt.JournalFull) few short is takes = (takes.0, subst (IsLine text) takes.1 is, subst (CanTake stock parts) takes.1 takes.2)
-text_takes stock left start parts count text q line (Err halt.NotWhole) few short is takes = (takes.0, subst (IsLine text) takes.1 is, subst (CanTake stock parts) takes.1 takes.2)
+text_takes stock left start parts count text q line (Err halt.JournalFull) few short is takes = (takes.0, subst (IsLine text) takes.1 is, subst (CanTake stock parts) takes.1 takes.2, takes.3)
+text_takes stock left start parts count text q line (Err halt.NotWhole) few short is takes = (takes.0, subst (IsLine text) takes.1 is, subst (CanTake stock parts) takes.1 takes.2, takes.3)
 
 lines_more : (texts : List (List ℕ)) (lines : List (Option Line)) (text : List ℕ) (line : Option Line) → AreLines texts lines → IsLine text line → AreLines (texts ++ text ∷ []) (lines ++ line ∷ [])
 lines_more [] lines text line are is = (line, [], ap (λ x. x ++ line ∷ []) are, is, refl)
@@ -72,7 +72,7 @@ played_to stock left start texts rest p count ready taken =
 
 -- the next text ended the play
 pub stops_there : (stock left : Stock) (start : Region) (texts rest : List (List ℕ)) (text : List ℕ) (p : PlayerState) (count : ℕ) (why : Halt) → IsReady p →
-    (taken : IsTaken stock left start texts (text ∷ rest) p count) → TextHalts stock taken.parts count text why → HaltsAt stock start texts false (count + 1) why
+    (taken : IsTaken stock left start texts (text ∷ rest) p count) → TextHalts stock start taken.parts count text why → HaltsAt stock start texts false (count + 1) why
 unfolding played_to
 stops_there stock left start texts rest text p count halt.Refused ready taken halts =
     record {
@@ -82,9 +82,9 @@ stops_there stock left start texts rest text p count halt.Refused ready taken ha
     }
 stops_there stock left start texts rest text p count halt.Memory ready taken halts = tt
 stops_there stock left start texts rest text p count halt.JournalFull ready taken halts =
-    record { text = text; rest = rest; named = halts.0; before = played_to stock left start texts (text ∷ rest) p count ready taken; is = halts.1; can = halts.2 }
+    (record { text = text; rest = rest; named = halts.0; before = played_to stock left start texts (text ∷ rest) p count ready taken; is = halts.1; can = halts.2 }, halts.3)
 stops_there stock left start texts rest text p count halt.NotWhole ready taken halts =
-    record { text = text; rest = rest; named = halts.0; before = played_to stock left start texts (text ∷ rest) p count ready taken; is = halts.1; can = halts.2 }
+    (record { text = text; rest = rest; named = halts.0; before = played_to stock left start texts (text ∷ rest) p count ready taken; is = halts.1; can = halts.2 }, halts.3)
 
 -- where all was taken, the line that lies beyond is the first that is refused
 pub beyond_all : (stock left : Stock) (start : Region) (texts : List (List ℕ)) (p : PlayerState) (count : ℕ) → IsReady p → IsTaken stock left start texts [] p count →

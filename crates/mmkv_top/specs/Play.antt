@@ -19,7 +19,7 @@ use Rattle.mmkv_top.specs.declared.limits.TheConstants.{LARGEST_COUNT, LARGEST_L
 use Rattle.mmkv_top.specs.declared.ending.Ending.{Ending}
 use Rattle.mmkv_top.specs.Ending.{ending}
 use Rattle.mmkv_top.specs.Parts.{Part, lines_of, past_of, outcomes_of, answers_in, strategies, Running, running, asked_of}
-use Rattle.mmkv_top.specs.Played.{Stock, MayCome, ArePlayed, AreReasoned}
+use Rattle.mmkv_top.specs.Played.{Stock, MayCome, ArePlayed, AreReasoned, AreRoomy, MeetsFullJournal, MeetsNoImage}
 
 -- a line without its line feed
 abbrev pub without_feed : List ℕ → List ℕ
@@ -82,6 +82,7 @@ pub record IsJournal (stock : Stock) (start : Region) (parts : List Part) : Type
   pub lawful : Lawful start (past_of parts)
   pub in_time : AreInTime start parts
   pub reasoned : AreReasoned start parts
+  pub roomy : AreRoomy parts
   pub answers : AreAnswered start (past_of parts) (answers_in (outcomes_of parts))
   pub legal : IsAccepted start → Apart start (past_of parts) → Legal (base start) (changes_of (past_of parts)) (answers_in (outcomes_of parts))
 
@@ -136,20 +137,20 @@ IsScriptRefused stock start texts beyond e =
 -- the journal had no place for what a line makes, and the line is named
 abbrev pub IsJournalFull : Stock → Region → List (List ℕ) → Ending → Type 0
 IsJournalFull stock start texts e =
-    (number : ℕ) × IsHalted stock start texts number × (e ≡ ending 16 (line (codes "journal" ∷ decimal number ∷ [])))
+    (number : ℕ) × (h : IsHalted stock start texts number) × MeetsFullJournal start h.before.parts h.named × (e ≡ ending 16 (line (codes "journal" ∷ decimal number ∷ [])))
 
 -- a region without a whole image isn't repaired yet
 abbrev pub not_yet : Ending
 not_yet = ending 17 (codes "not yet\n")
 
 -- a line met such a region
-abbrev pub MeetsNoImage : Stock → Region → List (List ℕ) → Ending → Type 0
-MeetsNoImage stock start texts e = (number : ℕ) × IsHalted stock start texts number × (e ≡ not_yet)
+abbrev pub IsWithoutImage : Stock → Region → List (List ℕ) → Ending → Type 0
+IsWithoutImage stock start texts e = (number : ℕ) × (h : IsHalted stock start texts number) × MeetsNoImage start h.before.parts h.named × (e ≡ not_yet)
 
 -- a line ended the play
 abbrev pub IsEndedEarly : Stock → Region → List (List ℕ) → Bool → Ending → Type 0
 IsEndedEarly stock start texts beyond e =
-    IsScriptRefused stock start texts beyond e ⊎ IsJournalFull stock start texts e ⊎ MeetsNoImage stock start texts e
+    IsScriptRefused stock start texts beyond e ⊎ IsJournalFull stock start texts e ⊎ IsWithoutImage stock start texts e
 
 -- the whole input is a script that is played, or ended early; or the input has a byte too many, and a line ends the play, be it that which holds it
 abbrev pub PlaysInput : Stock → Region → Option (List ℕ) → Option (List ℕ) → Ending → Type 0

@@ -1,23 +1,28 @@
 -- A script that was played: what each line may make. Parts and events stand with the latest first.
-use Rattle.std.specs.Prelude.{◌≡◌, ℕ, ◌<◌, ◌≤◌, Bool, true, false, List, [], ◌∷◌, ◌++◌, Option, Some, None, length, filter, IsTrue, ⊤}
-use Rattle.std.specs.List.{AllByRecursion}
+use Rattle.std.specs.Prelude.{◌≡◌, ◌≢◌, ℕ, ◌+◌, ◌<◌, ◌≤◌, ◌⊎◌, Bool, true, false, List, [], ◌∷◌, ◌++◌, Option, Some, None, length, filter, nat_le, ◌&&◌, IsTrue, ⊤}
 use Rattle.change_log.specs.declared.call.Answer.{Answer}
 use Rattle.change_log.specs.declared.call.Call.{Call}
 use Rattle.handlers.specs.declared.handler.Strategy.{Strategy}
 use Rattle.handlers.specs.declared.handler.Strategy.TheVariants.{Discard, Recover, Leave}
 use Rattle.handlers.specs.declared.stock.HandlerStock.{HandlerStock}
-use Rattle.lock_rules.specs.Locks.{IsLeastAgainst}
+use Rattle.lock_rules.specs.Locks.{IsLeastAgainst, MayTake}
 use Rattle.lock_rules.specs.declared.table.LockKind.{LockKind}
+use Rattle.lock_rules.specs.declared.table.LockKind.TheVariants.{Exclusive}
+use Rattle.meta_record.specs.declared.shown.Shown.TheVariants.{Whole}
 use Rattle.opener.specs.Begins.{call_refusal}
 use Rattle.opener.specs.Counted.{counted}
-use Rattle.opener.specs.Plans.{refusal_of}
+use Rattle.opener.specs.Opener.{image_at}
+use Rattle.opener.specs.Quiet.{AreSteps}
+use Rattle.opener.specs.Plans.{IsPlanOf, events_in, refusal_of}
 use Rattle.opener.specs.declared.calls.Stop.{Stop}
 use Rattle.opener.specs.declared.calls.Stop.TheVariants as stop
+use Rattle.opener.specs.declared.plan.Plan.{Plan}
 use Rattle.region_words.specs.Apart.{Apart}
 use Rattle.region_words.specs.Lawful.{map_after}
-use Rattle.region_words.specs.Past.{changes_of, locks_after, is_death, region_after}
-use Rattle.region_words.specs.Region.{Region, IsAccepted}
+use Rattle.region_words.specs.Past.{changes_of, locks_after, region_after}
+use Rattle.region_words.specs.Region.{Region, IsAccepted, shown}
 use Rattle.region_words.specs.Rows.{standing}
+use Rattle.region_words.specs.Share.{lock_of, most_events, places_kept}
 use Rattle.region_words.specs.declared.event.What.TheVariants.{Died}
 use Rattle.region_words.specs.declared.event.Event.{Event}
 use Rattle.region_words.specs.declared.event.TornWord.{TornWord}
@@ -67,10 +72,6 @@ MayCome stock parts (Step who count) = IsTrue (lives who parts)
 MayCome stock parts (Die who bits) = IsTrue (lives who parts)
 MayCome stock parts (Next who now call) = ⊥
 
--- the events of a step line: all of the opener, none a death
-abbrev pub AreSteps : ℕ → List Event → Type 0
-AreSteps who made = AllByRecursion (λ e. (e.who ≡ who) × (is_death e.what ≡ false)) made
-
 -- the call is answered: the answer's place lies between its begin and its end, and it counts the call's stores and locks
 pub record IsAnsweredBy (past : List Event) (c : Running) (who : ℕ) (a : Answer) : Type 0 where
   pub by : a.who ≡ who
@@ -108,12 +109,13 @@ pub record WasRefused (why : Stop) (asked : Call) (now begun : ℕ) (start : Reg
   pub since : begun ≤ length (changes_of earlier)
   pub first : IsAccepted start → Apart start earlier → refusal_of asked now (standing (region_after start earlier)) (map_after start earlier) ≡ Some why
 
--- what ends a step line of a running call: it goes on, is answered, waits for the least holder that stands against its try, or is stopped
+-- what ends a step line of a running call: it goes on, is answered, waits for the least holder that stands against its try, or is stopped and
+-- has stored nothing
 abbrev pub IsOutcomeOf : List Event → Running → ℕ → Option Outcome → Type 0
 IsOutcomeOf past c who None = ⊤
 IsOutcomeOf past c who (Some (Answered a)) = IsAnsweredBy past c who a
 IsOutcomeOf past c who (Some (Blocked w holder)) = (w ≡ who) × ((kind : LockKind) × IsLeastAgainst (locks_after past) who kind holder)
-IsOutcomeOf past c who (Some (Stopped w why)) = (w ≡ who) × IsPrinted why
+IsOutcomeOf past c who (Some (Stopped w why)) = (w ≡ who) × IsPrinted why × (stores_among c.since ≡ 0)
 
 -- the part of a step line of a running call
 pub record StepsOf (past : List Event) (who count : ℕ) (c : Running) (made : List Event) (outcome : Option Outcome) : Type 0 where
@@ -151,3 +153,60 @@ AreReasoned start (p ∷ parts) = AreReasoned start parts × IsReasoned start p 
 abbrev pub ArePlayed : Stock → List Part → Type 0
 ArePlayed stock [] = Unit {0}
 ArePlayed stock (p ∷ parts) = ArePlayed stock parts × IsPartOf stock parts p.line p.made p.outcome
+
+-- the places that are kept after these events for the first openers, so many, where none is reserved: one for the death of each that lives, and
+-- one for the unlock of each lock
+abbrev pub places_after : ℕ → List Event → ℕ
+places_after opened past = places_kept (λ who. nat_le 1 who && nat_le who opened) (λ who. 0) past
+
+-- beside the events so far and the places kept, the journal has no room for so many places
+abbrev pub IsTooFull : ℕ → List Event → ℕ → Type 0
+IsTooFull opened past asked = most_events < length past + places_after opened past + asked
+
+-- after these events a call asks for so many places: two for a lock that it may take; or, under the exclusive lock, one for each event of the
+-- rows that it makes
+abbrev pub AsksFor : Region → ℕ → Running → List Event → ℕ → Type 0
+AsksFor start who c past asked =
+    ((asked ≡ 2) × ((kind : LockKind) × MayTake (locks_after past) who kind))
+    ⊎ ((lock_of (locks_after past) who ≡ Some Exclusive)
+    × ((plan : Plan) × (asked ≡ events_in plan) × (IsAccepted start → Apart start past → IsPlanOf who c.call c.now (image_at start past) plan)))
+
+-- after some events of a step line its call asked for places that the journal hadn't
+pub record MetFullJournal (start : Region) (parts : List Part) (who count : ℕ) : Type 0 where
+  pub call : Running
+  pub runs : running who parts ≡ Some call
+  pub made : List Event
+  pub few : length made < count
+  pub own : AreSteps who made
+  pub asked : ℕ
+  pub asks : AsksFor start who call (made ++ past_of parts) asked
+  pub full : IsTooFull (length (strategies parts)) (made ++ past_of parts) asked
+
+-- a line for which the journal was too full: an opener asks for the place of its death
+abbrev pub MeetsFullJournal : Region → List Part → Line → Type 0
+MeetsFullJournal start parts (Open strategy) = IsTooFull (length (strategies parts)) (past_of parts) 1
+MeetsFullJournal start parts (Step who count) = MetFullJournal start parts who count
+MeetsFullJournal start parts _ = ⊥
+
+-- The call of a step line had looked at a region that shows no whole image. Where the start shows one, checksums don't tell payloads apart there.
+pub record MetNoImage (start : Region) (parts : List Part) (who count : ℕ) : Type 0 where
+  pub call : Running
+  pub runs : running who parts ≡ Some call
+  pub made : List Event
+  pub few : length made ≤ count
+  pub own : AreSteps who made
+  pub later : List Event
+  pub earlier : List Event
+  pub is : later ++ earlier ≡ made ++ past_of parts
+  pub not_whole : (n : ℕ) → shown (region_after start earlier) ≢ Whole n
+  pub apart : (n : ℕ) → shown start ≡ Whole n → Apart start earlier → ⊥
+
+abbrev pub MeetsNoImage : Region → List Part → Line → Type 0
+MeetsNoImage start parts (Step who count) = MetNoImage start parts who count
+MeetsNoImage start parts _ = ⊥
+
+-- after each line the journal has room for its events and the places kept
+abbrev pub AreRoomy : List Part → Type 0
+AreRoomy [] = ⊤
+AreRoomy (p ∷ parts) =
+    AreRoomy parts × (length (past_of (p ∷ parts)) + places_after (length (strategies (p ∷ parts))) (past_of (p ∷ parts)) ≤ most_events)

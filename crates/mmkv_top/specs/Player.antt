@@ -1,31 +1,34 @@
 -- The player of a script, and how far it has come.
-use Rattle.std.specs.Prelude.{◌≡◌, ℕ, ◌*◌, ◌+◌, ◌<◌, ◌≤◌, ◌⊎◌, Bool, List, [], ◌∷◌, ◌++◌, Option, Some, None, Result, Ok, Err, length, IsTrue, is_some, option_map, replicate, codes, decimal, ⊤}
+use Rattle.std.specs.Prelude.{◌≡◌, ◌≢◌, ℕ, ◌*◌, ◌+◌, ◌<◌, ◌≤◌, ◌⊎◌, Bool, List, [], ◌∷◌, ◌++◌, Option, Some, None, Result, Ok, Err, length, IfSome, IsTrue, is_some, nat_le, ◌&&◌, option_map, replicate, codes, decimal, ⊤}
 use Rattle.std.specs.List.{AllByRecursion}
-use Rattle.change_log.specs.Settled.{AreEndedBy, AreOfCall, IsSettled}
-use Rattle.change_log.specs.declared.change.Change.{Change}
+use Rattle.change_log.specs.Settled.{AreEndedBy}
 use Rattle.change_log.specs.declared.call.Answer.{Answer}
 use Rattle.change_log.specs.declared.call.Call.{Call as Asked}
 use Rattle.lock_rules.specs.Locks.{IsLeastAgainst}
 use Rattle.lock_rules.specs.declared.table.LockKind.{LockKind}
-use Rattle.opener.specs.Adds.{AreMade}
+use Rattle.opener.specs.Adds.{AreStoredBy}
 use Rattle.opener.specs.Bound.{steps_left}
 use Rattle.opener.specs.Counted.{counted}
 use Rattle.opener.specs.Calls.{holds_after}
-use Rattle.opener.specs.Opener.{Tied, OnAnswer, IsAnswer}
+use Rattle.opener.specs.Opener.{Tied, OnAnswer, IsAnswer, stop_found}
+use Rattle.opener.specs.Settles.{IsSettledBy, answers_by}
 use Rattle.opener.specs.State.{OpenerState}
 use Rattle.opener.specs.declared.calls.Step.{Step}
 use Rattle.opener.specs.declared.calls.Step.TheVariants as step
 use Rattle.opener.specs.declared.work.Running.{Running as Call}
 use Rattle.opener.specs.declared.calls.Stop.{Stop}
+use Rattle.opener.specs.declared.calls.Stop.TheVariants as stop
 use Rattle.opener.specs.declared.work.End.TheVariants as end
 use Rattle.opener.specs.declared.work.Stage.TheVariants.{Unlock}
 use Rattle.opener.specs.declared.work.Work.{Work}
 use Rattle.opener.specs.declared.work.Work.TheVariants.{Idle, Runs}
+use Rattle.meta_record.specs.declared.shown.Shown.TheVariants.{Whole}
 use Rattle.region_words.specs.Apart.{Apart}
-use Rattle.region_words.specs.Region.{Region, IsAccepted, base, file_size}
+use Rattle.region_words.specs.Region.{Region, IsAccepted, file_size, shown}
 use Rattle.region_words.specs.Past.{changes_of, locks_after, region_after}
-use Rattle.region_words.specs.Local.{Seated, no_account, seat_state}
+use Rattle.region_words.specs.Local.{Seated, account_of, no_account, seat_state}
 use Rattle.region_words.specs.declared.event.Event.{Event}
+use Rattle.region_words.specs.declared.event.What.{What}
 use Rattle.script_lang.specs.Lines.{IsLine}
 use Rattle.script_lang.specs.declared.line.Line.{Line}
 use Rattle.script_lang.specs.declared.outcome.Outcome.{Outcome}
@@ -39,7 +42,8 @@ use Rattle.mmkv_top.specs.Ending.{ending}
 use Rattle.mmkv_top.specs.declared.ending.Ending.{Ending}
 use Rattle.script_lang.specs.Texts.{line as text_line}
 use Rattle.mmkv_top.specs.Parts.{Part, lines_of, past_of, outcomes_of, answers_in, listed, strategies, holds_of, asked_of, locks_among, stores_among, Running, running, going_on}
-use Rattle.mmkv_top.specs.Played.{Stock, ArePlayed, AreReasoned, AreSteps, IsAnsweredBy, WasRefused, reason_said}
+use Rattle.opener.specs.Quiet.{AreSteps}
+use Rattle.mmkv_top.specs.Played.{Stock, ArePlayed, AreReasoned, AreRoomy, MeetsFullJournal, MeetsNoImage, AsksFor, IsTooFull, IsAnsweredBy, WasRefused, reason_said}
 use Rattle.mmkv_top.specs.Play.{AreAnswered, AreInTime, IsWithin, AreLines, CanTake, IsFirstRefused, IsHalted, IsRefusedIn, not_yet}
 
 -- the opener runs this call
@@ -66,17 +70,6 @@ CameTo past held (Some r) (step.Answered a) o = (o.work ≡ Idle) × (o.holds �
 CameTo past held (Some r) (step.Stopped why) o = (o.work ≡ Idle) × (o.holds ≡ held)
 CameTo past held _ _ o = ⊥
 
--- what the call of a line has changed once the line's last step came to this
-abbrev pub AreMadeOn : Step → Work → List Change → Type 0
-AreMadeOn (step.Answered a) work made = AreOfCall 1 a.call a.now made
-AreMadeOn (step.Stopped why) work made = made ≡ []
-AreMadeOn _ work made = AreMade 1 work made
-
--- the changes since this past are the call's, behind those that it had made before
-abbrev pub ChangesOn : Work → Step → Work → List Event → List Event → Type 0
-ChangesOn first last work past now =
-    (so_far : List Change) → AreMade 1 first so_far → (more : List Change) × (changes_of now ≡ changes_of past ++ more) × AreMadeOn last work (so_far ++ more)
-
 -- after so many steps of a line so many fewer are left to the call, within a data file of no fewer words than it has
 abbrev pub LeavesFewer : Step → Work → Work → ℕ → ℕ → Type 0
 LeavesFewer step.Going first work count size = (words : ℕ) → size ≤ 4 * words → steps_left words work + count ≤ steps_left words first
@@ -96,6 +89,63 @@ abbrev pub StoppedIs : Step → Option Running → Region → List Event → Typ
 StoppedIs (step.Stopped why) (Some r) start past = StopHolds why r.call r.now (length (changes_of r.past)) start past
 StoppedIs _ before start past = ⊤
 
+-- At an earlier moment the region showed no whole image. Where the start shows one, checksums don't tell payloads apart there.
+pub record SawNoImage (start : Region) (past : List Event) : Type 0 where
+  pub later : List Event
+  pub earlier : List Event
+  pub is : later ++ earlier ≡ past
+  pub not_whole : (n : ℕ) → shown (region_after start earlier) ≢ Whole n
+  pub apart : (n : ℕ) → shown start ≡ Whole n → Apart start earlier → ⊥
+
+-- what a stop tells of the region: the record of an accepted region is never refused, and no call fails
+abbrev pub StopSaw : Stop → Region → List Event → Type 0
+StopSaw (stop.NotWhole seen) start past = SawNoImage start past
+StopSaw (stop.Version n) start past = ⊥
+StopSaw (stop.Flags n) start past = ⊥
+StopSaw stop.Fault start past = ⊥
+StopSaw _ start past = ⊤
+
+-- so it is of a stop that is found, and of one that a step came to
+abbrev pub FoundSaw : Work → Region → List Event → Type 0
+FoundSaw work start past = IfSome (stop_found work) (λ why. StopSaw why start past)
+
+abbrev pub StoppedSaw : Step → Region → List Event → Type 0
+StoppedSaw (step.Stopped why) start past = StopSaw why start past
+StoppedSaw _ start past = ⊤
+
+-- no want of places was found
+abbrev pub IsUnfull : Work → Type 0
+IsUnfull work = stop_found work ≢ Some stop.JournalFull
+
+-- after fewer events than so many the call that runs asked for places that the journal hadn't
+pub record MetFull (start : Region) (past : List Event) (before : Option Running) (count : ℕ) : Type 0 where
+  pub call : Running
+  pub runs : before ≡ Some call
+  pub made : List Event
+  pub few : length made < count
+  pub own : AreSteps 1 made
+  pub asked : ℕ
+  pub asks : AsksFor start 1 call (made ++ past) asked
+  pub full : IsTooFull 1 (made ++ past) asked
+
+-- so it is where a step came to that
+abbrev pub StoppedFull : Step → Region → List Event → Option Running → ℕ → Type 0
+StoppedFull (step.Stopped stop.JournalFull) start past before count = MetFull start past before count
+StoppedFull _ start past before count = ⊤
+
+-- opener 1 was let in, and nobody else
+abbrev pub IsOnly : Seated → Type 0
+IsOnly s = (w : ℕ) → (account_of s.region.accounts w).admitted ≡ (nat_le 1 w && nat_le w 1)
+
+-- The stores and growths of the call that runs, once a step came to this. The stores are among them.
+abbrev pub HasStored : Step → Work → Option Running → Type 0
+HasStored last work None = ⊤
+HasStored last work (Some r) = (stored : List What) × (stores_among r.since ≤ length stored) × AreStoredBy last work stored
+
+-- all that opener 1 changed is settled by its answers, but what its running call has changed so far, where checksums tell payloads apart
+abbrev pub AreSettledAt : Work → Region → List Event → List Answer → Type 0
+AreSettledAt work start past answers = IsAccepted start → Apart start past → IsSettledBy 1 work start past answers
+
 -- So many steps of opener 1, which was at this work, were made at most, the last of them came to this, and these are their events.
 pub record Stepped (start : Region) (past : List Event) (held : ℕ) (before : Option Running) (first : Work) (count : ℕ) (last : Step) (made : List Event) (o : OpenerState) (s : Seated) : Type 0 where
   pub few : length made ≤ count
@@ -108,10 +158,17 @@ pub record Stepped (start : Region) (past : List Event) (held : ℕ) (before : O
   pub steady : s.region.failing.listed ≡ []
   pub answer : OnAnswer last (λ a. IsAnswer a s.region.start s.region.past)
   pub came : CameTo s.region.past held (option_map (going_on made) before) last o
-  pub changed : ChangesOn first last o.work past s.region.past
+  pub settled : (answers : List Answer) → AreSettledAt first start past answers → AreSettledAt o.work s.region.start s.region.past (answers ++ answers_by last)
   pub fewer : LeavesFewer last first o.work count (file_size (region_after s.region.start s.region.past))
   pub found : FoundIs o.work s.region.start s.region.past
   pub stopped : StoppedIs last before s.region.start s.region.past
+  pub alone : AreSteps 1 s.region.past
+  pub only : IsOnly s
+  pub saw : FoundSaw o.work s.region.start s.region.past
+  pub stopped_saw : StoppedSaw last s.region.start s.region.past
+  pub unfull : IsUnfull o.work
+  pub full : StoppedFull last start past before count
+  pub stored : HasStored last o.work (option_map (going_on made) before)
 
 -- the outcome of a line whose last step of opener 1 came to this, if it has one
 abbrev pub IsOutcomeAt : Step → Option Outcome → Type 0
@@ -120,10 +177,25 @@ IsOutcomeAt (step.Answered a) o = o ≡ Some (Answered a)
 IsOutcomeAt (step.Stopped why) o = (r : Reason) × (o ≡ Some (Stopped 1 r)) × (reason_said why ≡ Some r)
 IsOutcomeAt _ o = o ≡ None
 
--- it ended the play, but wasn't refused
-abbrev pub IsNoRefusal : Halt → Type 0
-IsNoRefusal halt.Refused = ⊥
-IsNoRefusal _ = ⊤
+-- no reason is printed for what a call that stops so saw
+abbrev pub IsUnsaid : Stop → Type 0
+IsUnsaid (stop.NotWhole seen) = ⊤
+IsUnsaid (stop.Version n) = ⊤
+IsUnsaid (stop.Flags n) = ⊤
+IsUnsaid stop.Fault = ⊤
+IsUnsaid _ = ⊥
+
+-- why a stop without a reason that is printed ends the play
+abbrev pub IsHaltOf : Stop → Halt → Type 0
+IsHaltOf why halt.Refused = ⊥
+IsHaltOf why halt.Memory = ⊤
+IsHaltOf why halt.JournalFull = why ≡ stop.JournalFull
+IsHaltOf why halt.NotWhole = IsUnsaid why
+
+-- and so does a step that came to one
+abbrev pub HaltsBy : Step → Halt → Type 0
+HaltsBy last halt.Memory = ⊤
+HaltsBy last why = (found : Stop) × (last ≡ step.Stopped found) × IsHaltOf found why
 
 -- the outcome is added
 abbrev pub Notes : Step → PlayerState → PlayerState → Type 0
@@ -140,24 +212,6 @@ pub record HasAnswered (start : Region) (past : List Event) (r : Option Running)
   pub within : AreEndedBy (length (changes_of past)) answers
   pub earlier : AreEarlier r answers
 
--- the call that runs began no later than after these changes
-abbrev pub HasBegunBy : Work → List Change → Type 0
-HasBegunBy (Runs c stage) before = c.begun ≤ length before
-HasBegunBy _ before = ⊤
-
--- all changes are settled by answers but those that the running call has made so far, and these are the last
-pub record IsSettledSoFar (work : Work) (start : Region) (past : List Event) (answers : List Answer) : Type 0 where
-  pub before : List Change
-  pub made : List Change
-  pub are : changes_of past ≡ before ++ made
-  pub settled : IsSettled 1 (base start) before answers
-  pub of_call : AreMade 1 work made
-  pub begun : HasBegunBy work before
-
--- where checksums tell payloads apart they are
-abbrev pub Settles : Work → Region → List Event → List Answer → Type 0
-Settles work start past answers = IsAccepted start → Apart start past → IsSettledSoFar work start past answers
-
 -- the steps left to a call that runs, and those that were asked of it, are at most six a word and a hundred
 abbrev pub IsBounded : Work → ℕ → ℕ → Type 0
 IsBounded (Runs c stage) asked size = (words : ℕ) → size ≤ 4 * words → steps_left words (Runs c stage) + asked ≤ 6 * words + 100
@@ -172,9 +226,13 @@ pub record IsOpened (start : Region) (parts : List Part) (o : OpenerState) (s : 
   pub holds : o.holds ≡ holds_of 1 parts
   pub ours : AllByRecursion (λ e. e.who ≡ 1) (past_of parts)
   pub answered : HasAnswered start (past_of parts) (running 1 parts) (answers_in (outcomes_of parts))
-  pub settles : Settles o.work start (past_of parts) (answers_in (outcomes_of parts))
+  pub settles : AreSettledAt o.work start (past_of parts) (answers_in (outcomes_of parts))
   pub bounded : IsBounded o.work (asked_of 1 parts) (file_size (region_after start (past_of parts)))
   pub found : FoundIs o.work start (past_of parts)
+  pub only : IsOnly s
+  pub saw : FoundSaw o.work start (past_of parts)
+  pub unfull : IsUnfull o.work
+  pub stored : HasStored step.Going o.work (running 1 parts)
 
 -- no opener yet
 pub record IsUnopened (stock left : Stock) (parts : List Part) : Type 0 where
@@ -198,6 +256,7 @@ pub record IsAt (stock left : Stock) (start : Region) (parts : List Part) (p : P
   pub each : ArePlayed stock parts
   pub in_time : AreInTime start parts
   pub reasoned : AreReasoned start parts
+  pub roomy : AreRoomy parts
   pub opener : OpenerAt stock left start parts p.seat p.opener
 
 -- the opener is tied to the seat, or nothing has happened there yet, and the region it starts from is accepted
@@ -214,14 +273,15 @@ TakesOne stock left start parts line new =
     (made : List Event) × (outcome : Option Outcome) × IsAt stock left start (record { line = line; made = made; outcome = outcome } ∷ parts) new
 
 -- why it ended the play
-abbrev pub HasHalted : Stock → List Part → Option Line → Halt → Type 0
-HasHalted stock parts line halt.Refused = CanTake stock parts line → ⊥
-HasHalted stock parts line halt.Memory = ⊤
-HasHalted stock parts line _ = (l : Line) × (line ≡ Some l) × CanTake stock parts line
+abbrev pub HasHalted : Stock → Region → List Part → Option Line → Halt → Type 0
+HasHalted stock start parts line halt.Refused = CanTake stock parts line → ⊥
+HasHalted stock start parts line halt.Memory = ⊤
+HasHalted stock start parts line halt.JournalFull = (l : Line) × (line ≡ Some l) × CanTake stock parts line × MeetsFullJournal start parts l
+HasHalted stock start parts line halt.NotWhole = (l : Line) × (line ≡ Some l) × CanTake stock parts line × MeetsNoImage start parts l
 
 abbrev pub Takes : {A : Type 0} → Stock → Stock → Region → List Part → Option Line → PlayerState → Result A Halt → Type 0
 Takes stock left start parts line new (Ok _) = TakesOne stock left start parts line new
-Takes stock left start parts line new (Err why) = HasHalted stock parts line why
+Takes stock left start parts line new (Err why) = HasHalted stock start parts line why
 
 -- the first texts of a script were taken as these parts, so many
 pub record AreTaken (texts rest : List (List ℕ)) (parts : List Part) (count : ℕ) : Type 0 where
@@ -250,20 +310,22 @@ pub record TakesText (stock left : Stock) (start : Region) (parts : List Part) (
   pub one : TakesOne stock left start parts named new
 
 -- why the text of a line ended the play
-abbrev pub TextHalts : Stock → List Part → ℕ → List ℕ → Halt → Type 0
-TextHalts stock parts count text halt.Refused = IsRefusedAfter stock count parts text
-TextHalts stock parts count text halt.Memory = ⊤
-TextHalts stock parts count text _ = (l : Line) × IsLine text (Some l) × CanTake stock parts (Some l)
+abbrev pub TextHalts : Stock → Region → List Part → ℕ → List ℕ → Halt → Type 0
+TextHalts stock start parts count text halt.Refused = IsRefusedAfter stock count parts text
+TextHalts stock start parts count text halt.Memory = ⊤
+TextHalts stock start parts count text halt.JournalFull = (l : Line) × IsLine text (Some l) × CanTake stock parts (Some l) × MeetsFullJournal start parts l
+TextHalts stock start parts count text halt.NotWhole = (l : Line) × IsLine text (Some l) × CanTake stock parts (Some l) × MeetsNoImage start parts l
 
 abbrev pub TakesOrHalts : {A : Type 0} → Stock → Stock → Region → List Part → ℕ → List ℕ → PlayerState → Result A Halt → Type 0
 TakesOrHalts stock left start parts count text new (Ok _) = TakesText stock left start parts count text new
-TakesOrHalts stock left start parts count text new (Err why) = TextHalts stock parts count text why
+TakesOrHalts stock left start parts count text new (Err why) = TextHalts stock start parts count text why
 
 -- the line of this number ended the play
 abbrev pub HaltsAt : Stock → Region → List (List ℕ) → Bool → ℕ → Halt → Type 0
 HaltsAt stock start texts beyond number halt.Refused = IsFirstRefused stock start texts beyond number
 HaltsAt stock start texts beyond number halt.Memory = ⊤
-HaltsAt stock start texts beyond number _ = IsHalted stock start texts number
+HaltsAt stock start texts beyond number halt.JournalFull = (h : IsHalted stock start texts number) × MeetsFullJournal start h.before.parts h.named
+HaltsAt stock start texts beyond number halt.NotWhole = (h : IsHalted stock start texts number) × MeetsNoImage start h.before.parts h.named
 
 -- the ending that goes with why a line of this number ended the play
 abbrev pub IsEndingAt : ℕ → Halt → Ending → Type 0

@@ -1,14 +1,14 @@
 // A script's opener at a region in memory.
-ghost use Rattle.std.specs.Prelude.{◌≡◌, ◌↔◌, [], IsTrue, IfOk, IfErr, OnOk, List, Option, None, Some, ℕ, false};
+ghost use Rattle.std.specs.Prelude.{◌≡◌, ◌↔◌, [], IsTrue, IfOk, IfErr, OnOk, List, Option, None, Some, ℕ, false, true};
 ghost use Rattle.opener.specs.Calls.{IsBuilt};
-ghost use Rattle.opener.specs.Opener.{Tied};
+ghost use Rattle.opener.specs.Opener.{Tied, stop_found};
 ghost use Rattle.opener.specs.declared.work.Work.TheVariants as Work;
 ghost use Rattle.region_words.specs.Region.{Region, IsAccepted};
 ghost use Rattle.region_words.specs.Local.{seat_state};
 ghost use Rattle.region_words.specs.declared.event.Event.{Event};
 ghost use Rattle.mmkv_top.specs.Parts.{Running};
 ghost use Rattle.mmkv_top.specs.Played.{reason_said};
-ghost use Rattle.mmkv_top.specs.Player.{Stepped, IsOutcomeAt, IsNoRefusal};
+ghost use Rattle.mmkv_top.specs.Player.{Stepped, IsOutcomeAt, HaltsBy, IsHaltOf, MetFull};
 
 use crate::halt::Halt;
 use change_log::Call;
@@ -50,7 +50,7 @@ impl Player {
     ghost use Rattle.region_words.specs.Local.{no_account};
     ghost use Rattle.mmkv_top.specs.Parts.{Part};
     ghost use Rattle.mmkv_top.specs.Played.{Stock, stock_of};
-    ghost use Rattle.mmkv_top.specs.Player.{IsAt, IsReady, Takes, Notes, IsNoRefusal};
+    ghost use Rattle.mmkv_top.specs.Player.{IsAt, IsReady, Takes, Notes, HaltsBy};
 
     /// No line was taken yet.
     pub(crate) fn new(alloc: Global, region: LocalRegion) -> Player
@@ -145,7 +145,7 @@ impl Player {
     // Adds what the opener's last step came to, if it is an outcome.
     fn note(&mut self, last: Step) -> Result<(), Halt>
         ensures ok { OnOk result (Notes last self.old self.new) }
-        ensures err { IfErr result IsNoRefusal }
+        ensures err { IfErr result (HaltsBy last) }
     {
         if let Some(outcome) = outcome_of(last)? {
             self.outcomes.push(outcome).map_err(|_| Halt::Memory)?;
@@ -160,7 +160,7 @@ fn opener_at(alloc: Global, seat: &LocalSeat, handler: Box<dyn Handler + Send>) 
     requires free { (seat_state seat.now).holds ≡ None }
     requires accepted { IsAccepted seat.now.region.start }
     ensures tied { Tied result (seat_state seat.now) }
-    ensures new { result ≡ record { who = seat.now.who; image = None; holds = 0; work = Work.Idle } }
+    ensures new { result ≡ record { who = seat.now.who; handled = true; image = None; holds = 0; work = Work.Idle } }
 {
     Opener::new(alloc, seat.who(), handler)
 }
@@ -174,24 +174,32 @@ fn steps(opener: &mut Opener, seat: &mut LocalSeat, count: u32) -> Result<Step, 
     ensures stepped { IfOk result (λ last. (start : Region) (past : List Event) (held : ℕ) (before : Option Running) →
         Stepped start past held before opener.old.work 0 Step.Going [] opener.old seat.old →
         (made : List Event) × Stepped start past held before opener.old.work count last made opener.new seat.new) }
-    ensures err { IfErr result IsNoRefusal }
+    ensures halted { IfErr result (λ why. (why ≡ Halt.JournalFull) × ((start : Region) (past : List Event) (held : ℕ) (before : Option Running) →
+        Stepped start past held before opener.old.work 0 Step.Going [] opener.old seat.old → MetFull start past before count)) }
 {
     for _ in 0..count {
         match opener.step(seat) {
             Step::Going => {}
             last => return Ok(last),
         }
-        if matches!(opener.stop_found(), Some(Stop::JournalFull)) {
+        if lacks_places(opener) {
             return Err(Halt::JournalFull);
         }
     }
     Ok(Step::Going)
 }
 
+// The running call found no places in the journal for what it wants.
+fn lacks_places(opener: &Opener) -> bool
+    ensures { IsTrue result ↔ stop_found opener.now.work ≡ Some Stop.JournalFull }
+{
+    matches!(opener.stop_found(), Some(Stop::JournalFull))
+}
+
 // The outcome of a line whose last step came to this, if it has one.
 fn outcome_of(last: Step) -> Result<Option<Outcome>, Halt>
     ensures ok { IfOk result (IsOutcomeAt last) }
-    ensures err { IfErr result IsNoRefusal }
+    ensures err { IfErr result (HaltsBy last) }
 {
     match last {
         Step::Idle | Step::Going | Step::Again => Ok(None),
@@ -210,7 +218,7 @@ fn outcome_of(last: Step) -> Result<Option<Outcome>, Halt>
 // The reason that is printed for a stop; the others end the play.
 fn reason_of(stop: Stop) -> Result<Reason, Halt>
     ensures ok { IfOk result (λ r. reason_said stop ≡ Some r) }
-    ensures err { IfErr result IsNoRefusal }
+    ensures err { IfErr result (IsHaltOf stop) }
 {
     match stop {
         Stop::Full { need } => Ok(Reason::Full { need }),

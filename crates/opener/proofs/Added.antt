@@ -1,6 +1,6 @@
 -- All that a step adds, by what its call on the share did.
 use Rattle.std.proofs.Common.{◌≡◌, ℕ, Bool, List, [], ◌∷◌, ◌++◌, refl, sym, ◌∙◌, subst, ap, inl, inr, append-nil}
-use Rattle.std.specs.Prelude.{Option, Some, None}
+use Rattle.std.specs.Prelude.{Option, Some, None, filter}
 use Rattle.change_log.specs.Acts.{act_of}
 use Rattle.change_log.specs.Settled.{AreOfAct, AreOfCall, AreBegun}
 use Rattle.change_log.specs.declared.change.Act.{Act}
@@ -13,7 +13,7 @@ use Rattle.region_words.specs.declared.event.What.{What}
 use Rattle.region_words.specs.declared.stops.ShareStop.{ShareStop}
 use Rattle.region_words.specs.declared.stops.ShareStop.TheVariants.{Failed, Turn, Memory, JournalFull}
 use Rattle.opener.specs.State.{OpenerState}
-use Rattle.opener.specs.Adds.{Adds, AreMade, AreMadeAt, AreMadeBy, Counts, IsRaisedIn, Loads, locks_taken, stores_in}
+use Rattle.opener.specs.Adds.{Adds, AreMade, AreMadeAt, AreMadeBy, AreStored, AreStoredAt, AreStoredBy, changes_region, Counts, IsRaisedIn, Loads, locks_taken, stores_in}
 use Rattle.opener.specs.Calls.{AfterStop}
 use Rattle.opener.specs.Ends.{Waits}
 use Rattle.opener.specs.Writes.{commits_of, commits_in}
@@ -27,6 +27,7 @@ use Rattle.opener.specs.declared.work.Stage.TheVariants as stage
 use Rattle.opener.specs.declared.work.Work.{Work}
 use Rattle.opener.specs.declared.work.Work.TheVariants.{Runs}
 use Rattle.opener.proofs.Adding.{none_more, keeps_lock, gives_lock, takes_lock}
+use Rattle.opener.proofs.Storing.{StoresNothing, KeepsStored, calm_stored}
 
 -- where nothing is made, a history grows by nothing
 grows_none : (who : ℕ) (alone : Bool) (told : Option History) → OnBoth told told (Grows who alone [])
@@ -65,60 +66,68 @@ module _ (who : ℕ) (running : Running) (at : Stage) (result : Step) (new : Wor
 
   all_of : (left : Left) (loads stores locks : ℕ) → After left s t → Loads loads s t → locks_taken s.holds t.holds ≡ locks → stores_in left.own ≡ stores →
       ((so_far : List Change) → AreMadeAt who running at so_far → AreMadeBy who running result new (so_far ++ commits_of left.own)) →
+      ((so_far : List What) → AreStoredAt at so_far → AreStoredBy result new (so_far ++ filter changes_region left.own)) →
       Counts running loads stores locks result new → Adds who running at result new s t
-  all_of left loads stores locks after loaded took stored made counts =
+  all_of left loads stores locks after loaded took many made stored counts =
       record {
         own = left.own;
         loads = loads;
         grows = after.told;
         loaded = loaded;
         made = made;
-        counts = subst (λ n. Counts running loads n (locks_taken s.holds t.holds) result new) (sym stored) (subst (λ n. Counts running loads stores n result new) (sym took) counts);
+        stored = stored;
+        counts = subst (λ n. Counts running loads n (locks_taken s.holds t.holds) result new) (sym many) (subst (λ n. Counts running loads stores n result new) (sym took) counts);
       }
 
   as_before : KeepsMade → (own : List What) → commits_of own ≡ [] → (so_far : List Change) → AreMadeAt who running at so_far → AreMadeBy who running result new (so_far ++ commits_of own)
   as_before keeps own none so_far are =
       subst (AreMadeBy who running result new) (sym (ap (λ l. so_far ++ l) none ∙ append-nil so_far)) (keeps so_far are)
 
-  pub adds_load : Goes (loaded s) s t → KeepsMade → Counts running 1 0 0 result new → Adds who running at result new s t
-  adds_load goes keeps counts =
-      all_of (loaded s) 1 0 0 goes.after (inr (refl, ap (λ c. c.loads) goes.after.counts)) (keeps_lock s.holds t.holds goes.after.holds) refl (as_before keeps [] refl) counts
+  as_stored : KeepsStored at result new → (own : List What) → filter changes_region own ≡ [] → (so_far : List What) → AreStoredAt at so_far →
+      AreStoredBy result new (so_far ++ filter changes_region own)
+  as_stored keeps own none so_far are = subst (AreStoredBy result new) (sym (ap (λ l. so_far ++ l) none ∙ append-nil so_far)) (keeps so_far are)
+
+  pub adds_load : Goes (loaded s) s t → KeepsStored at result new → KeepsMade → Counts running 1 0 0 result new → Adds who running at result new s t
+  adds_load goes stored keeps counts =
+      all_of (loaded s) 1 0 0 goes.after (inr (refl, ap (λ c. c.loads) goes.after.counts)) (keeps_lock s.holds t.holds goes.after.holds) refl (as_before keeps [] refl) (as_stored stored [] refl) counts
 
   -- a call on the share that made neither an event nor a load
-  pub adds_none : (left : Left) → After left s t → left.own ≡ [] → left.counts.loads ≡ s.counts.loads → left.holds ≡ s.holds → KeepsMade → Counts running 0 0 0 result new →
+  pub adds_none : (left : Left) → After left s t → left.own ≡ [] → left.counts.loads ≡ s.counts.loads → left.holds ≡ s.holds → KeepsStored at result new → KeepsMade → Counts running 0 0 0 result new →
       Adds who running at result new s t
-  adds_none left after none loads holds keeps counts =
+  adds_none left after none loads holds stored keeps counts =
       all_of left 0 0 0 after (inl (refl, ap (λ c. c.loads) after.counts ∙ loads)) (keeps_lock s.holds t.holds (after.holds ∙ holds)) (ap stores_in none)
-      (as_before keeps left.own (ap commits_of none)) counts
+      (as_before keeps left.own (ap commits_of none)) (as_stored stored left.own (ap (filter changes_region) none)) counts
 
-  pub adds_lock : (kind : LockKind) → Goes (locked kind s) s t → s.holds ≡ None → KeepsMade → Counts running 0 0 1 result new → Adds who running at result new s t
-  adds_lock kind goes free keeps counts =
+  pub adds_lock : (kind : LockKind) → Goes (locked kind s) s t → s.holds ≡ None → KeepsStored at result new → KeepsMade → Counts running 0 0 1 result new → Adds who running at result new s t
+  adds_lock kind goes free stored keeps counts =
       all_of (locked kind s) 0 0 1 goes.after (inl (refl, ap (λ c. c.loads) goes.after.counts)) (takes_lock kind s.holds t.holds free goes.after.holds) refl
-      (as_before keeps (locked kind s).own refl) counts
+      (as_before keeps (locked kind s).own refl) (as_stored stored (locked kind s).own refl) counts
 
-  pub adds_unlock : Goes (unlocked_by s) s t → KeepsMade → Counts running 0 0 0 result new → Adds who running at result new s t
-  adds_unlock goes keeps counts =
+  pub adds_unlock : Goes (unlocked_by s) s t → KeepsStored at result new → KeepsMade → Counts running 0 0 0 result new → Adds who running at result new s t
+  adds_unlock goes stored keeps counts =
       all_of (unlocked_by s) 0 0 0 goes.after (inl (refl, ap (λ c. c.loads) goes.after.counts)) (gives_lock s.holds t.holds goes.after.holds) refl
-      (as_before keeps (unlocked_by s).own refl) counts
+      (as_before keeps (unlocked_by s).own refl) (as_stored stored (unlocked_by s).own refl) counts
 
   -- an event of a row
-  pub adds_event : (first : What) → After (stored first s) s t →
+  pub adds_event : (first : What) → After (stored first s) s t → ((so_far : List What) → AreStoredBy result new so_far) →
       ((so_far : List Change) → AreMadeAt who running at so_far → AreMadeBy who running result new (so_far ++ change_of first)) →
       Counts running 0 (stores_in (first ∷ [])) 0 result new → Adds who running at result new s t
-  adds_event first after made counts =
+  adds_event first after stored_by made counts =
       all_of (stored first s) 0 (stores_in (first ∷ [])) 0 after (inl (refl, ap (λ c. c.loads) after.counts)) (keeps_lock s.holds t.holds after.holds) refl
-      (λ so_far are. subst (λ l. AreMadeBy who running result new (so_far ++ l)) (sym (append-nil (change_of first))) (made so_far are)) counts
+      (λ so_far are. subst (λ l. AreMadeBy who running result new (so_far ++ l)) (sym (append-nil (change_of first))) (made so_far are))
+      (λ so_far are. stored_by (so_far ++ filter changes_region (first ∷ []))) counts
 
 -- without a call on the share nothing is added
-pub adds_nothing : (who : ℕ) (running : Running) (at : Stage) (result : Step) (new : Work) (s : ShareState) → KeepsMade who running at result new s s → Counts running 0 0 0 result new →
+pub adds_nothing : (who : ℕ) (running : Running) (at : Stage) (result : Step) (new : Work) (s : ShareState) → KeepsStored at result new → KeepsMade who running at result new s s → Counts running 0 0 0 result new →
     Adds who running at result new s s
-adds_nothing who running at result new s keeps counts =
+adds_nothing who running at result new s stored keeps counts =
     record {
       own = [];
       loads = 0;
       grows = grows_none s.who s.alone s.told;
       loaded = inl (refl, refl);
       made = λ so_far are. subst (AreMadeBy who running result new) (sym (append-nil so_far)) (keeps so_far are);
+      stored = λ so_far are. subst (AreStoredBy result new) (sym (append-nil so_far)) (stored so_far are);
       counts = subst (λ n. Counts running 0 0 n result new) (sym (keeps_lock s.holds s.holds refl)) counts;
     }
 
@@ -131,6 +140,10 @@ module _ (who : ℕ) (o : OpenerState) (running : Running) (at : Stage) (result 
   again_counts : (result ≡ step.Again) × (new ≡ record o { work = Runs running at }) → Counts running 0 0 0 result new.work
   again_counts is =
       subst (λ r. Counts running 0 0 0 r new.work) (sym is.0) (subst (λ (n : OpenerState). Counts running 0 0 0 step.Again n.work) (sym is.1) (none_more running))
+
+  again_stored : (result ≡ step.Again) × (new ≡ record o { work = Runs running at }) → KeepsStored at result new.work
+  again_stored is so_far are =
+      subst (λ r. AreStoredBy r new.work so_far) (sym is.0) (subst (λ (n : OpenerState). AreStoredBy step.Again n.work so_far) (sym is.1) are)
 
   failed_made : result ≡ step.Stopped why.Fault → KeepsMade who running at result new.work s t
   failed_made is so_far are = subst (λ r. AreMadeBy who running r new.work so_far) (sym is) (begun_at who running at so_far are)
@@ -146,29 +159,31 @@ module _ (who : ℕ) (o : OpenerState) (running : Running) (at : Stage) (result 
         grows = fails.after.told;
         loaded = inl (refl, ap (λ c. c.loads) fails.after.counts);
         made = λ so_far are. subst (AreMadeBy who running result new.work) (sym (append-nil so_far)) (failed_made is so_far are);
+        stored = λ so_far are. subst (λ r. AreStoredBy r new.work (so_far ++ filter changes_region (failed s).own)) (sym is) tt;
         counts = subst (λ n. Counts running 0 0 n result new.work) (sym (gives_lock s.holds t.holds fails.after.holds)) (failed_counts is);
       }
 
   pub stopped_adds : (stop : ShareStop) → AfterStop stop o running at result new → Stops stop s t → Adds who running at result new.work s t
-  stopped_adds Turn after stops = adds_none who running at result new.work s t (turned_away s) stops.after refl refl refl (again_made after) (again_counts after)
+  stopped_adds Turn after stops = adds_none who running at result new.work s t (turned_away s) stops.after refl refl refl (again_stored after) (again_made after) (again_counts after)
   stopped_adds Failed after stops = died_adds stops after.0
   stopped_adds Memory after stops = absurd stops
   stopped_adds JournalFull after stops = absurd stops
 
   -- a try of a call that has made nothing yet
-  pub tried_adds : (kind : LockKind) (stop : ShareStop) → ((so_far : List Change) → AreMadeAt who running at so_far → so_far ≡ []) → AfterStop stop o running at result new →
+  pub tried_adds : StoresNothing at → (kind : LockKind) (stop : ShareStop) → ((so_far : List Change) → AreMadeAt who running at so_far → so_far ≡ []) → AfterStop stop o running at result new →
       StopsTrying kind stop s t → Adds who running at result new.work s t
-  tried_adds kind Turn nothing after stops = adds_none who running at result new.work s t (turned_away s) stops.after refl refl refl (again_made after) (again_counts after)
-  tried_adds kind Failed nothing after stops = died_adds stops after.0
-  tried_adds kind Memory nothing after stops =
-      adds_none who running at result new.work s t (unmoved s) stops.0.after refl refl refl
+  tried_adds calm kind Turn nothing after stops = adds_none who running at result new.work s t (turned_away s) stops.after refl refl refl (again_stored after) (again_made after) (again_counts after)
+  tried_adds calm kind Failed nothing after stops = died_adds stops after.0
+  tried_adds calm kind Memory nothing after stops =
+      adds_none who running at result new.work s t (unmoved s) stops.0.after refl refl refl (calm_stored at result new.work calm)
       (λ so_far are. subst (λ r. AreMadeBy who running r new.work so_far) (sym after.0) (nothing so_far are)) (subst (λ r. Counts running 0 0 0 r new.work) (sym after.0) tt)
-  tried_adds kind JournalFull nothing after stops =
-      adds_none who running at result new.work s t (unmoved s) stops.0.after refl refl refl
+  tried_adds calm kind JournalFull nothing after stops =
+      adds_none who running at result new.work s t (unmoved s) stops.0.after refl refl refl (calm_stored at result new.work calm)
       (λ so_far are. subst (λ r. AreMadeBy who running r new.work so_far) (sym after.0) (nothing so_far are)) (subst (λ r. Counts running 0 0 0 r new.work) (sym after.0) tt)
 
   pub waits_adds : (holder : ℕ) → Waits running at holder o result new → Goes (refused s) s t → Adds who running at result new.work s t
   waits_adds holder waits goes =
       adds_none who running at result new.work s t (refused s) goes.after refl refl refl
+      (λ so_far are. subst (λ r. AreStoredBy r new.work so_far) (sym waits.0) (subst (λ (n : OpenerState). AreStored n.work so_far) (sym waits.1) are))
       (λ so_far are. subst (λ r. AreMadeBy who running r new.work so_far) (sym waits.0) (subst (λ (n : OpenerState). AreMade who n.work so_far) (sym waits.1) are))
       (subst (λ r. Counts running 0 0 0 r new.work) (sym waits.0) (subst (λ (n : OpenerState). IsRaisedIn running 0 0 0 n.work) (sym waits.1) (none_more running)))

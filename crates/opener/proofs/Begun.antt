@@ -1,6 +1,6 @@
 -- An opener that begins a call is tied to its share as before.
 use Rattle.std.proofs.Common.{◌≡◌, ℕ, ◌<◌, ◌≤◌, ◌^◌, arith, Bool, true, false, cond, List, length, refl, sym, ◌∙◌, subst, ap}
-use Rattle.std.specs.Prelude.{Option, Some, None, nat_le, nat_lt, ◌==◌, ◌||◌}
+use Rattle.std.specs.Prelude.{not, Option, Some, None, nat_le, nat_lt, ◌==◌, ◌||◌}
 use Rattle.std.proofs.lemmas.Bool.Decides.{nat_tests}
 use Rattle.change_log.specs.declared.call.Call.{Call}
 use Rattle.change_log.specs.declared.call.Call.TheVariants as call
@@ -30,7 +30,7 @@ use Rattle.opener.proofs.Carry.{changes_are, exclusive_if}
 pub record MayFirst (o : OpenerState) (running : Running) (next : Stage) : Type 0 where
   pub at : IsAt o (Runs running next)
   pub calm : is_storing (Runs running next) ≡ false
-  pub owes : (s : ShareState) → Owes o (Runs running next) s
+  pub owes : (s : ShareState) → s.reserved s.who ≡ 0 → Owes o (Runs running next) s
   pub told : (start : Region) (past : List Event) → StageIs o running next start past
 
 none_held : (holds : ℕ) → (holds == 0) ≡ true → holds ≡ 0
@@ -83,7 +83,7 @@ module _ (o : OpenerState) (now changes : ℕ) (next : Stage) where
       go : (b : Bool) → (o.holds == 0) ≡ b → ReadsBy (cond b None (Some Exclusive)) next → MayFirst o (begun_at asked now changes) next
       go true e is =
           subst (MayFirst o (begun_at asked now changes)) (sym is)
-          (record { at = ((λ some. refl), (plain, no_write (is_write asked) refl), (none_held o.holds e, refl)); calm = refl; owes = λ s. tt; told = λ start past. tt })
+          (record { at = ((λ some. refl), (plain, no_write (is_write asked) refl), (none_held o.holds e, refl)); calm = refl; owes = λ s none. none; told = λ start past. tt })
         where
           no_write : (w : Bool) → is_write asked ≡ w → is_write asked ≡ false
           no_write true f = absurd (omega (arith, none_held o.holds e, write f))
@@ -94,7 +94,7 @@ module _ (o : OpenerState) (now changes : ℕ) (next : Stage) where
           (record {
             at = ((λ some. refl), plain, (is.2.going, (λ none. let both = sym mine ∙ none in absurd cc), (λ w. mine)));
             calm = refl;
-            owes = λ s. tt;
+            owes = λ s none. none;
             told = λ start past. is.2.told (region_after start past);
           })
 
@@ -106,7 +106,7 @@ module _ (o : OpenerState) (now changes : ℕ) (next : Stage) where
       (record {
         at = ((λ some. refl), plain, ((λ none. let both = sym e ∙ none in absurd cc), (λ w. exclusive_if o.holds None (write w))));
         calm = refl;
-        owes = λ s. tt;
+        owes = λ s none. none;
         told = λ start past. tt;
       })
 
@@ -116,7 +116,7 @@ module _ (o : OpenerState) (now changes : ℕ) (next : Stage) where
       go : (b : Bool) → (o.holds == 0) ≡ b → IsFirstPlain b o.image o.holds next → MayFirst o (begun_at asked now changes) next
       go true e is =
           subst (MayFirst o (begun_at asked now changes)) (sym is)
-          (record { at = ((λ some. refl), can, (none_held o.holds e, refl)); calm = refl; owes = λ s. tt; told = λ start past. tt })
+          (record { at = ((λ some. refl), can, (none_held o.holds e, refl)); calm = refl; owes = λ s none. none; told = λ start past. tt })
       go false e is = may_notice asked plain (λ w. some_held o.holds e) o.image refl is
 
   pub may_first : (asked : Call) → IsBuilt asked → HasBytes asked → call_refusal asked o.holds ≡ None → IsFirst o.image o.holds asked next → MayFirst o (begun_at asked now changes) next
@@ -133,10 +133,10 @@ module _ (o : OpenerState) (now changes : ℕ) (next : Stage) where
   may_first call.Disable built bytes none first = absurd built
   may_first call.Hold built bytes none first =
       subst (MayFirst o (begun_at call.Hold now changes)) (sym first)
-      (record { at = ((λ some. refl), refl, (not_deep o.holds none, refl)); calm = refl; owes = λ s. tt; told = λ start past. tt })
+      (record { at = ((λ some. refl), refl, (not_deep o.holds none, refl)); calm = refl; owes = λ s none. none; told = λ start past. tt })
   may_first call.Release built bytes none first =
       subst (MayFirst o (begun_at call.Release now changes)) (sym first)
-      (record { at = ((λ some. refl), refl, may_release o.holds none); calm = refl; owes = λ s. tt; told = λ start past. tt })
+      (record { at = ((λ some. refl), refl, may_release o.holds none); calm = refl; owes = λ s none. none; told = λ start past. tt })
   may_first call.Sync built bytes none first = may_notice call.Sync tt (λ w. absurd cc) o.image refl first
 
 -- only an idle opener begins
@@ -158,11 +158,12 @@ begun_tied o new asked now changes s tied built bytes none count next first is =
       who = tied.who;
       maker = tied.maker;
       ended = tied.ended ∙ ap is_ended idle.0;
+      handled = tied.handled ∙ ap (λ w. not (is_ended w)) idle.0;
       holds = tied.holds ∙ ap (lock_in o.holds) idle.0;
       deep = tied.deep;
       sound = tied.sound;
       at = may.at;
-      owes = may.owes s;
+      owes = may.owes s (subst (λ w. Owes o w s) idle.0 tied.owes);
       told = told_and s.told (Knows o s) (λ h. changes ≡ length (changes_of h.past)) (Knows (running_as o (begun_at asked now changes) next) s)
           (λ h k e. record {
             agrees = k.agrees;
@@ -177,20 +178,21 @@ begun_tied o new asked now changes s tied built bytes none count next first is =
     })
 
 -- an opener that has made no call is tied to a share that holds nothing and whose start, where it is told, is accepted
-pub new_tied : (o : OpenerState) (s : ShareState) → IsSound s → OnTold s.told (λ h. IsAccepted h.start) → o ≡ record { who = s.who; image = None; holds = 0; work = Idle } → s.ended ≡ false →
+pub new_tied : (o : OpenerState) (s : ShareState) → IsSound s → OnTold s.told (λ h. IsAccepted h.start) → o ≡ record { who = s.who; handled = true; image = None; holds = 0; work = Idle } → s.ended ≡ false →
     s.holds ≡ None → Tied o s
 new_tied o s sound accepted is alive free =
-    let fresh : OpenerState = record { who = s.who; image = None; holds = 0; work = Idle } in
+    let fresh : OpenerState = record { who = s.who; handled = true; image = None; holds = 0; work = Idle } in
     subst (λ (n : OpenerState). Tied n s) (sym is)
     (record {
       who = refl;
       maker = sound.maker;
       ended = alive;
+      handled = refl;
       holds = free;
       deep = omega arith;
       sound = tt;
       at = tt;
-      owes = tt;
+      owes = (sound.unreserved (λ held. let both = sym free ∙ held in absurd cc)).0;
       told = told_and s.told (Agrees s) (λ h. IsAccepted h.start) (Knows fresh s)
           (λ h a ok. record { agrees = a; accepted = ok; facts = record { image = tt; rests = λ held. absurd cc; work = tt } }) sound.told accepted;
     })

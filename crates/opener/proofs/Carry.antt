@@ -1,6 +1,6 @@
 -- What an opener knows of its share's journal is carried over what others do, and over its own calls.
 use Rattle.std.proofs.Common.{◌≡◌, ◌≢◌, ℕ, zero, suc, ◌<◌, ◌≤◌, arith, true, false, cond, List, [], ◌∷◌, ◌++◌, length, take, refl, sym, ◌∙◌, subst, ap, append_assoc, length-append}
-use Rattle.std.specs.Prelude.{Option, Some, None, slice_get, IfSome, ◌==◌}
+use Rattle.std.specs.Prelude.{Option, Some, None, slice_get, IfSome, not, ◌==◌}
 use Rattle.std.proofs.lemmas.List.{take-append-le}
 use Rattle.std.proofs.lemmas.Bool.Decides.{nat_tests}
 use Rattle.change_log.specs.Acts.{act_of, replay}
@@ -15,7 +15,7 @@ use Rattle.region_words.specs.Region.{Region, IsRegion, IsAccepted, base, file_s
 use Rattle.meta_record.specs.declared.shown.Shown.TheVariants.{Whole}
 use Rattle.region_words.specs.Past.{region_after, after_all, changes_of, locks_after, NoneOf}
 use Rattle.region_words.specs.Apart.{Apart}
-use Rattle.region_words.specs.Rows.{Row}
+use Rattle.region_words.specs.Rows.{Row, standing}
 use Rattle.region_words.specs.Lawful.{Lawful, Between}
 use Rattle.region_words.specs.Making.{Making}
 use Rattle.region_words.specs.Owing.{AreStorable, Comes}
@@ -39,8 +39,8 @@ use Rattle.loader.specs.Loads.{HasLoaded}
 use Rattle.loader.specs.declared.loaded.Image.{Image}
 use Rattle.opener.specs.State.{OpenerState}
 use Rattle.opener.specs.Ends.{OnImage, lock_by}
-use Rattle.opener.specs.Opener.{Facts, Knows, Tied, IsShown, WasShown, ImageIs, ReplyIs, ChangeIs, EndIs, StageIs, WorkIs, IsAt, IsAtStage, Owes, lock_in, is_ended, is_storing, IsCalm}
-use Rattle.opener.specs.Plans.{IsSoundImage}
+use Rattle.opener.specs.Opener.{Facts, Knows, Tied, IsShown, WasShown, ImageIs, PlanIs, ReplyIs, ChangeIs, EndIs, StageIs, WorkIs, IsAt, IsAtStage, Owes, image_at, lock_in, is_ended, is_storing, IsCalm}
+use Rattle.opener.specs.Plans.{IsPlanOf, IsSoundImage}
 use Rattle.opener.specs.Writes.{MayStart, HasStanding, Leads, PlanLeads, commits_of, first_events}
 use Rattle.opener.specs.declared.plan.Plan.{Plan}
 use Rattle.opener.specs.declared.plan.Plan.TheVariants.{Append, Rewrite}
@@ -128,6 +128,12 @@ module _ (start : Region) (others past : List Event) (region : region_after star
   plan_on (Rewrite r None map) is = leads_on r map is
   plan_on (Rewrite r (Some a) map) is = (is.0, leads_on r is.0 is.1, is.2)
 
+  -- the call makes the same plan
+  pub plan_is_on : (who : ℕ) (running : Running) (plan : Plan) → PlanIs who running plan start past → PlanIs who running plan start (others ++ past)
+  plan_is_on who running plan is ok apart =
+      let same : image_at start (others ++ past) ≡ image_at start past = λ j. record { standing = standing (region j); map = replay (base start) (changes j) } in
+      subst (λ i. IsPlanOf who running.call running.now i plan) (sym same) (is ok (apart_front start others past apart))
+
   -- an image that is shown at rest is shown still
   pub shown_on : (i : Image) → AtRest start (others ++ past) → IsShown i start past → IsShown i start (others ++ past)
   shown_on i rests is =
@@ -190,8 +196,11 @@ module _ (o : OpenerState) (running : Running) (start : Region) (others past : L
           let s = same (exclusive_some lock at.1) in
           shown_on start others past s.0 s.1 i (None, rests apart at.1 refl) (is ok (apart_front start others past apart))
   stage_later (Reserve plan) rests at is =
-      let s = same (exclusive_some lock at.0) in
-      ((is.0.0, is.0.1, starts_later o.who is.0.0 (first_events plan) start others past l none (mine ∙ at.0) is.0.2), plan_on start others past s.0 s.1 plan is.1)
+      let s = same (exclusive_some lock at.0) in (
+        (is.0.0, is.0.1, starts_later o.who is.0.0 (first_events plan) start others past l none (mine ∙ at.0) is.0.2),
+        plan_on start others past s.0 s.1 plan is.1,
+        plan_is_on start others past s.0 s.1 o.who running plan is.2,
+      )
   stage_later (Store plan) rests at is =
       let s = same (exclusive_some lock at.0) in
       (plan_on start others past s.0 s.1 plan is.0, record { before = is.1.before; made = is.1.made; are = s.1 ∙ is.1.are; begun = is.1.begun; all = is.1.all })
@@ -262,16 +271,17 @@ told_call o s t left E P tied after learned follows =
 
 -- the share is tied to the opener that is left
 pub tied_from : (o next : OpenerState) (s t : ShareState) (left : Left) (E : Region → List Event → Type 0) → Tied o s → After left s t → next.who ≡ o.who →
-    left.ended ≡ is_ended next.work → left.holds ≡ lock_in next.holds next.work → next.holds ≤ 1000 → OnImage next.image IsSoundImage → IsAt next next.work → Owes next next.work t →
+    left.ended ≡ is_ended next.work → next.handled ≡ not (is_ended next.work) → left.holds ≡ lock_in next.holds next.work → next.holds ≤ 1000 → OnImage next.image IsSoundImage → IsAt next next.work → Owes next next.work t →
     OnTold t.told (λ k. E k.start k.past) →
     ((start : Region) (past : List Event) → IsAccepted start → IsRegion start → Lawful start (made_by s.who left.own ++ past) → lock_after past s.who ≡ s.holds → Facts o start past →
     E start (made_by s.who left.own ++ past) → Facts next start (made_by s.who left.own ++ past)) →
     Tied next t
-tied_from o next s t left E tied after who ended holds deep sound at owes learned follows =
+tied_from o next s t left E tied after who ended handled holds deep sound at owes learned follows =
     record {
       who = after.same.who ∙ tied.who ∙ sym who;
       maker = subst (λ w. (1 ≤ w) × (w ≤ 64)) (sym who) tied.maker;
       ended = after.ended ∙ ended;
+      handled = handled;
       holds = after.holds ∙ holds;
       deep = deep;
       sound = sound;
@@ -282,13 +292,49 @@ tied_from o next s t left E tied after who ended holds deep sound at owes learne
     }
 
 pub tied_after : (o next : OpenerState) (s t : ShareState) (left : Left) (E : Region → List Event → Type 0) → Tied o s → After left s t → next.who ≡ o.who →
-    left.ended ≡ is_ended next.work → left.holds ≡ lock_in next.holds next.work → next.holds ≤ 1000 → OnImage next.image IsSoundImage → IsAt next next.work → Owes next next.work t →
+    left.ended ≡ is_ended next.work → next.handled ≡ not (is_ended next.work) → left.holds ≡ lock_in next.holds next.work → next.holds ≤ 1000 → OnImage next.image IsSoundImage → IsAt next next.work → Owes next next.work t →
     OnTold t.told (λ k. E k.start k.past) →
     ((start : Region) (past : List Event) → IsRegion start → Lawful start (made_by s.who left.own ++ past) → lock_after past s.who ≡ s.holds → Facts o start past →
     E start (made_by s.who left.own ++ past) → Facts next start (made_by s.who left.own ++ past)) →
     Tied next t
-tied_after o next s t left E tied after who ended holds deep sound at owes learned follows =
-    tied_from o next s t left E tied after who ended holds deep sound at owes learned (λ start past ok. follows start past)
+tied_after o next s t left E tied after who ended handled holds deep sound at owes learned follows =
+    tied_from o next s t left E tied after who ended handled holds deep sound at owes learned (λ start past ok. follows start past)
+
+-- no place is reserved after a call that leaves none
+pub none_reserved : (s t : ShareState) (left : Left) → After left s t → left.places ≡ 0 → t.reserved t.who ≡ 0
+none_reserved s t left after none = ap t.reserved after.same.who ∙ after.places ∙ none
+
+-- where no stores are under way none is
+pub unreserved : (o : OpenerState) (work : Work) (s : ShareState) → is_storing work ≡ false → Owes o work s → s.reserved s.who ≡ 0
+unreserved o Idle s calm owes = owes
+unreserved o Ended s calm owes = owes
+unreserved o (Runs running PeekChecksum) s calm owes = owes
+unreserved o (Runs running (PeekSequence peek)) s calm owes = owes
+unreserved o (Runs running LockShared) s calm owes = owes
+unreserved o (Runs running LockExclusive) s calm owes = owes
+unreserved o (Runs running (Load loading)) s calm owes = owes
+unreserved o (Runs running Size) s calm owes = owes
+unreserved o (Runs running (Reserve plan)) s calm owes = owes
+unreserved o (Runs running (Store plan)) s calm owes = absurd cc
+unreserved o (Runs running (Unlock how)) s calm owes = owes
+unreserved o (Runs running Hold) s calm owes = owes
+unreserved o (Runs running Release) s calm owes = owes
+
+-- and then none is owed
+pub owes_nothing : (o : OpenerState) (work : Work) (s : ShareState) → is_storing work ≡ false → s.reserved s.who ≡ 0 → Owes o work s
+owes_nothing o Idle s calm none = none
+owes_nothing o Ended s calm none = none
+owes_nothing o (Runs running PeekChecksum) s calm none = none
+owes_nothing o (Runs running (PeekSequence peek)) s calm none = none
+owes_nothing o (Runs running LockShared) s calm none = none
+owes_nothing o (Runs running LockExclusive) s calm none = none
+owes_nothing o (Runs running (Load loading)) s calm none = none
+owes_nothing o (Runs running Size) s calm none = none
+owes_nothing o (Runs running (Reserve plan)) s calm none = none
+owes_nothing o (Runs running (Store plan)) s calm none = absurd cc
+owes_nothing o (Runs running (Unlock how)) s calm none = none
+owes_nothing o (Runs running Hold) s calm none = none
+owes_nothing o (Runs running Release) s calm none = none
 
 -- the number of changes that a share says is that of its journal
 pub changes_are : (told : Option History) (n : ℕ) → n ≡ changes_told told → OnTold told (λ h. n ≡ length (changes_of h.past))

@@ -18,7 +18,7 @@ use Rattle.opener.specs.declared.work.End.{End}
 use Rattle.opener.specs.declared.work.End.TheVariants as end
 use Rattle.opener.specs.declared.work.Stage.TheVariants as stage
 use Rattle.opener.specs.declared.work.Work.TheVariants.{Idle, Runs}
-use Rattle.opener.proofs.Carry.{tied_after, told_call, changes_are, image_later, end_later, own_if}
+use Rattle.opener.proofs.Carry.{none_reserved, tied_after, told_call, changes_are, image_later, end_later, own_if}
 use Rattle.opener.proofs.Leaves.{is_answer}
 use Rattle.opener.proofs.Stopped.{nothing_told}
 
@@ -40,7 +40,7 @@ module _ (o : OpenerState) (running : Running) (s t : ShareState) (goes : Goes (
       let none = free (end.Answer place reply) tied in
       subst (λ (n : OpenerState). Tied n t) (sym is.1)
       (tied_after (running_as o running (stage.Unlock (end.Answer place reply))) (record o { work = Idle }) s t (unlocked_by s) (λ start past. ⊤) tied goes.after refl
-      tied.ended (sym none) tied.deep tied.sound tt tt (nothing_told t.told)
+      tied.ended tied.handled (sym none) tied.deep tied.sound tt (none_reserved s t (unlocked_by s) goes.after refl) (nothing_told t.told)
       (λ start past region lawful lock facts e. record {
         image = image_later o.image start (event_of s.who Unlock ∷ []) past lawful facts.image;
         rests = λ held. let both = sym none ∙ held in absurd cc;
@@ -50,7 +50,7 @@ module _ (o : OpenerState) (running : Running) (s t : ShareState) (goes : Goes (
       let none = free (end.Stop why) tied in
       subst (λ (n : OpenerState). Tied n t) (sym is.1)
       (tied_after (running_as o running (stage.Unlock (end.Stop why))) (record o { image = None; work = Idle }) s t (unlocked_by s) (λ start past. ⊤) tied goes.after refl
-      tied.ended (sym none) tied.deep tt tt tt (nothing_told t.told)
+      tied.ended tied.handled (sym none) tied.deep tt tt (none_reserved s t (unlocked_by s) goes.after refl) (nothing_told t.told)
       (λ start past region lawful lock facts e. record { image = tt; rests = λ held. let both = sym none ∙ held in absurd cc; work = tt }))
 
   pub unlocked_answer : (how : End) (ended : ℕ) (result : Step) (new : OpenerState) → Tied (running_as o running (stage.Unlock how)) s → ended ≡ changes_told t.told →

@@ -1,5 +1,5 @@
 -- The pairs are written anew, and an item is appended next.
-use Rattle.std.proofs.Common.{◌≡◌, ◌≢◌, ℕ, ◌+◌, ◌^◌, ◌<◌, ◌≤◌, arith, true, false, List, [], ◌∷◌, ◌++◌, length, refl, sym, ◌∙◌, subst, ap, append-nil}
+use Rattle.std.proofs.Common.{◌≡◌, ◌≢◌, ℕ, ◌+◌, ◌^◌, ◌<◌, arith, true, false, List, [], ◌∷◌, ◌++◌, length, refl, sym, ◌∙◌, subst, ap, append-nil}
 use Rattle.std.specs.Prelude.{◌-◌, Option, Some, unwrap_or}
 use Rattle.expiring_map.specs.Map.{Map}
 use Rattle.change_log.specs.Acts.{applied, replay}
@@ -221,7 +221,7 @@ module _ (o : OpenerState) (running next : Running) (r b a : Making) (map : Map)
   followed_owes =
       let who_is = after.same.who ∙ tied.who in
       let places : t.reserved t.who ≡ s.reserved s.who - 1 = ap t.reserved after.same.who ∙ after.places in
-      let fits : events_in (Append a map) ≤ t.reserved t.who = omega (arith, places, tied.owes.places, ap length only) in
+      let as_many : t.reserved t.who ≡ events_in (Append a map) = omega (arith, places, tied.owes.places, ap length only) in
       record {
         row = rows.Append change.act;
         row_is = (change.act, refl);
@@ -229,7 +229,7 @@ module _ (o : OpenerState) (running next : Running) (r b a : Making) (map : Map)
           alive = after.ended ∙ tied.ended;
           holds = after.holds ∙ tied.holds ∙ tied.at.2.0;
           maker = after.sound.maker;
-          places = fits;
+          places = omega (arith, as_many);
           room = subst (λ (k : Making). AreWithin (t.room t.who) k.events) (sym a_is) (append_within (t.room t.who) b.standing (item_of b.standing.flag change.act) (Commit change));
           told = told_and t.told (Agrees t) (λ k. IsFollowed o.who change a map k.start k.past) (Owes (rows.Append change.act) a.events t)
               (λ k agrees is. record {
@@ -238,14 +238,14 @@ module _ (o : OpenerState) (running next : Running) (r b a : Making) (map : Map)
                 coming = λ apart. subst (λ w. Comes k.start k.past w (rows.Append change.act) a.events) (sym who_is) (is.coming apart);
               }) after.sound.told followed;
         };
-        places = fits;
+        places = as_many;
       }
 
   pub followed_tied : Tied (running_as o next (stage.Store (Append a map))) t
   followed_tied =
       let same = lock.same in
       let held : lock_by o.holds next.taken ≡ lock_by o.holds running.taken = ap (lock_by o.holds) lock.taken in
-      tied_from (running_as o running (stage.Store (Rewrite r (Some a) map))) (running_as o next (stage.Store (Append a map))) s t (stored first s) (IsFollowed o.who change a map) tied after refl tied.ended
+      tied_from (running_as o running (stage.Store (Rewrite r (Some a) map))) (running_as o next (stage.Store (Append a map))) s t (stored first s) (IsFollowed o.who change a map) tied after refl tied.ended tied.handled
       (tied.holds ∙ sym held) tied.deep tied.sound
       ((λ some. lock.taken ∙ tied.at.0 some), subst CanWrite (sym same.call) tied.at.1, (held ∙ tied.at.2.0, (subst (λ (k : Making). k.events ≢ []) (sym a_is) (append_some b.standing change), tied.at.2.1.4)))
       followed_owes followed

@@ -25,7 +25,7 @@ use Rattle.opener.specs.declared.work.End.TheVariants as end
 use Rattle.opener.specs.declared.work.Stage.{Stage}
 use Rattle.opener.specs.declared.work.Stage.TheVariants as stage
 use Rattle.opener.specs.declared.work.Work.TheVariants.{Idle, Runs}
-use Rattle.opener.proofs.Carry.{tied_after, told_call, changes_are, more_changes, image_later, exclusive_if}
+use Rattle.opener.proofs.Carry.{none_reserved, unreserved, tied_after, told_call, changes_are, more_changes, image_later, exclusive_if}
 use Rattle.opener.proofs.Leaves.{is_answer}
 use Rattle.opener.proofs.Stages.{locked_rest}
 use Rattle.opener.proofs.Stopped.{nothing_told}
@@ -85,11 +85,12 @@ module _ (o : OpenerState) (running : Running) (stage : Stage) (s : ShareState) 
         who = tied.who;
         maker = tied.maker;
         ended = tied.ended;
+        handled = tied.handled;
         holds = tied.holds ∙ exclusive_if o.holds running.taken some ∙ sym (exclusive_if holds None more);
         deep = deep;
         sound = tied.sound;
         at = tt;
-        owes = tt;
+        owes = unreserved (running_as o running stage) (Runs running stage) s calm tied.owes;
         told = told_map s.told (Knows (running_as o running stage) s) (Knows (record o { holds = holds; work = Idle }) s)
             (λ h k. record {
               agrees = k.agrees;
@@ -107,8 +108,8 @@ module _ (o : OpenerState) (running next : Running) (s t : ShareState) (tied : T
   -- the first hold takes the lock
   pub held_tied : Tied (record o { holds = 1; work = Idle }) t
   held_tied =
-      tied_after (running_as o running stage.Hold) (record o { holds = 1; work = Idle }) s t (locked Exclusive s) (λ start past. ⊤) tied tries.0.after refl tied.ended refl
-      (omega arith) tied.sound tt tt (nothing_told t.told)
+      tied_after (running_as o running stage.Hold) (record o { holds = 1; work = Idle }) s t (locked Exclusive s) (λ start past. ⊤) tied tries.0.after refl tied.ended tied.handled refl
+      (omega arith) tied.sound tt (none_reserved s t (locked Exclusive s) tries.0.after tied.owes) (nothing_told t.told)
       (λ start past region lawful lock facts e. record {
         image = image_later o.image start (event_of s.who (Lock Exclusive) ∷ []) past lawful facts.image;
         rests = λ held calm apart. locked_rest start past s.who lawful apart;
@@ -127,8 +128,8 @@ module _ (o : OpenerState) (running : Running) (s t : ShareState) (goes : Goes (
   -- the last release gives it up
   pub released_tied : Tied (record o { holds = 0; work = Idle }) t
   released_tied =
-      tied_after (running_as o running stage.Release) (record o { holds = 0; work = Idle }) s t (unlocked_by s) (λ start past. ⊤) tied goes.after refl tied.ended refl
-      (omega arith) tied.sound tt tt (nothing_told t.told)
+      tied_after (running_as o running stage.Release) (record o { holds = 0; work = Idle }) s t (unlocked_by s) (λ start past. ⊤) tied goes.after refl tied.ended tied.handled refl
+      (omega arith) tied.sound tt (none_reserved s t (unlocked_by s) goes.after refl) (nothing_told t.told)
       (λ start past region lawful lock facts e. record {
         image = image_later o.image start (event_of s.who Unlock ∷ []) past lawful facts.image;
         rests = λ held. absurd cc;

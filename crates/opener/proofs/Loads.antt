@@ -129,7 +129,9 @@ module _ (o : OpenerState) (running next : Running) (old : Loading) (result : St
         after = goes.after;
         alive = refl;
         lock = refl;
+        places = tied.owes;
         who = refl;
+        handled = refl;
         holds = refl;
         sound = sound;
         taken = same.taken;
@@ -185,8 +187,9 @@ module _ (o : OpenerState) (running next : Running) (old : Loading) (result : St
     not_whole : OnTold t.told (λ h. shown (region_after h.start h.past) ≡ found.shown)
     not_whole = told_map t.told (λ h. IsLoadOf found (region_after h.start h.past)) (λ h. shown (region_after h.start h.past) ≡ found.shown) (λ h is. sym is.shown) told
 
-    no_reason : (z : Shown) → found.shown ≡ z → HasReason (Runs running (Load old)) (why.NotWhole z) s t
-    no_reason z e = subst (λ y. OnTold t.told (λ h. shown (region_after h.start h.past) ≡ y)) e not_whole
+    no_reason : (z : Shown) → ((n : ℕ) → z ≢ seen.Whole n) → found.shown ≡ z → HasReason (Runs running (Load old)) (why.NotWhole z) s t
+    no_reason z other e =
+        told_map t.told (λ h. shown (region_after h.start h.past) ≡ found.shown) (λ h. (shown (region_after h.start h.past) ≡ z) × ((n : ℕ) → z ≢ seen.Whole n)) (λ h is. (is ∙ e, other)) not_whole
 
     abbrev Is : Shown → Type 0
     Is z = IsLoadedBy z next found place o result new
@@ -227,9 +230,9 @@ module _ (o : OpenerState) (running next : Running) (old : Loading) (result : St
         go : (z : Shown) → found.shown ≡ z → Is z → HasCause (Runs running (Load old)) result new.work s t
         go (seen.Whole n) e is =
             ready_cause o mid found.image running next (Load old) place place result new s t tied (leaving (Some found.image) (sound_load found sound)) refl same.same looks_next (whole_ready n e) refl is
-        go (seen.Header n) e is = stop_cause (why.NotWhole (seen.Header n)) place (no_reason (seen.Header n) e) is
-        go (seen.Last n) e is = stop_cause (why.NotWhole (seen.Last n)) place (no_reason (seen.Last n) e) is
-        go (seen.Damaged d) e is = stop_cause (why.NotWhole (seen.Damaged d)) place (no_reason (seen.Damaged d) e) is
+        go (seen.Header n) e is = stop_cause (why.NotWhole (seen.Header n)) place (no_reason (seen.Header n) (λ k both. absurd cc) e) is
+        go (seen.Last n) e is = stop_cause (why.NotWhole (seen.Last n)) place (no_reason (seen.Last n) (λ k both. absurd cc) e) is
+        go (seen.Damaged d) e is = stop_cause (why.NotWhole (seen.Damaged d)) place (no_reason (seen.Damaged d) (λ k both. absurd cc) e) is
 
 pub refused_ends : (f : RecordFault) → MayEnd (end.Stop (stop_of f))
 refused_ends (fault.Version n) = tt

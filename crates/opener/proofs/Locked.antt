@@ -23,7 +23,7 @@ use Rattle.opener.specs.declared.work.Running.{Running}
 use Rattle.opener.specs.declared.work.Stage.{Stage}
 use Rattle.opener.specs.declared.work.Stage.TheVariants.{LockExclusive}
 use Rattle.opener.specs.declared.work.Work.TheVariants.{Runs}
-use Rattle.opener.proofs.Carry.{tied_after, more_changes, image_later, own_if}
+use Rattle.opener.proofs.Carry.{none_reserved, tied_after, more_changes, image_later, own_if}
 use Rattle.opener.proofs.Stages.{locked_rest}
 use Rattle.opener.proofs.Stopped.{nothing_told}
 
@@ -46,7 +46,7 @@ record MayNotice (o : OpenerState) (next : Running) (stage : Stage) : Type 0 whe
   pub suits : Suits next.call stage
   pub at : IsAtStage o next stage
   pub calm : is_storing (Runs next stage) ≡ false
-  pub owes : (s : ShareState) → Owes o (Runs next stage) s
+  pub owes : (s : ShareState) → s.reserved s.who ≡ 0 → Owes o (Runs next stage) s
   pub told : (start : Region) (past : List Event) → StageIs o next stage start past
 
 may_load : (o : OpenerState) (next : Running) (stage : Stage) (lock : Option LockKind) → IsPlain next.call → lock_by o.holds next.taken ≡ Some Exclusive → lock ≡ Some Exclusive →
@@ -58,7 +58,7 @@ may_load o next stage (Some kind) plain mine is reads =
       suits = plain;
       at = (reads.2.going, (λ none. let both = sym mine ∙ none in absurd cc), (λ write. mine));
       calm = refl;
-      owes = λ s. tt;
+      owes = λ s none. none;
       told = λ start past. reads.2.told (region_after start past);
     })
 
@@ -71,7 +71,7 @@ may_notice o next stage taken plain mine same (Some i) e is =
       suits = plain;
       at = ((λ none. let both = sym e ∙ none in absurd cc), (λ write. mine));
       calm = refl;
-      owes = λ s. tt;
+      owes = λ s none. none;
       told = λ start past. tt;
     })
 
@@ -81,8 +81,8 @@ pub exclusive_tied : (o : OpenerState) (running next : Running) (stage : Stage) 
 exclusive_tied o running next stage s t tied same taken tries notices =
     let mine : lock_by o.holds next.taken ≡ Some Exclusive = own_if o.holds next.taken tied.at.2.0 ∙ taken in
     let may = may_notice o next stage next.taken (write_plain next.call (subst CanWrite (sym same.call) tied.at.1)) mine mine o.image refl notices in
-    tied_after (running_as o running LockExclusive) (running_as o next stage) s t (locked Exclusive s) (λ start past. ⊤) tied tries.0.after refl tied.ended
-    (sym mine) tied.deep tied.sound ((λ some. absurd (omega (arith, some, tied.at.2.0))), may.suits, may.at) (may.owes t) (nothing_told t.told)
+    tied_after (running_as o running LockExclusive) (running_as o next stage) s t (locked Exclusive s) (λ start past. ⊤) tied tries.0.after refl tied.ended tied.handled
+    (sym mine) tied.deep tied.sound ((λ some. absurd (omega (arith, some, tied.at.2.0))), may.suits, may.at) (may.owes t (none_reserved s t (locked Exclusive s) tries.0.after tied.owes)) (nothing_told t.told)
     (λ start past region lawful lock facts e. record {
       image = image_later o.image start (event_of s.who (Lock Exclusive) ∷ []) past lawful facts.image;
       rests = λ held calm apart. locked_rest start past s.who lawful apart;

@@ -32,7 +32,7 @@ use Rattle.opener.specs.declared.work.Running.{Running}
 use Rattle.opener.specs.declared.work.Stage.{Stage}
 use Rattle.opener.specs.declared.work.Stage.TheVariants.{PeekSequence, LockShared, Load}
 use Rattle.opener.specs.declared.work.Work.TheVariants.{Runs}
-use Rattle.opener.proofs.Carry.{tied_after, told_call, more_changes}
+use Rattle.opener.proofs.Carry.{none_reserved, tied_after, told_call, more_changes}
 use Rattle.opener.proofs.EndClauses.{going_cause}
 use Rattle.opener.proofs.Leaves.{Leaving}
 use Rattle.opener.proofs.Ready.{ReadyWith}
@@ -122,7 +122,9 @@ module _ (o : OpenerState) (running next : Running) (peek : Peek) (s t : ShareSt
         after = goes.after;
         alive = refl;
         lock = refl;
+        places = tied.owes;
         who = refl;
+        handled = refl;
         holds = refl;
         sound = tied.sound;
         taken = same.taken;
@@ -173,15 +175,15 @@ module _ (o : OpenerState) (running next : Running) (peek : Peek) (s t : ShareSt
       go None e is =
           let f = free (o.holds == 0) refl e in
           subst (λ z. Tied (running_as o next z) t) (sym is)
-          (tied_after (running_as o running (PeekSequence peek)) (running_as o next LockShared) s t (loaded s) (λ start past. ⊤) tied goes.after refl tied.ended
+          (tied_after (running_as o running (PeekSequence peek)) (running_as o next LockShared) s t (loaded s) (λ start past. ⊤) tied goes.after refl tied.ended tied.handled
           (tied.holds ∙ lock) tied.deep tied.sound
-          ((λ some. same.taken ∙ tied.at.0 some), (subst IsPlain (sym same.same.call) tied.at.1, unwritten e), (f.0, same.taken ∙ f.1)) tt (nothing_told t.told)
+          ((λ some. same.taken ∙ tied.at.0 some), (subst IsPlain (sym same.same.call) tied.at.1, unwritten e), (f.0, same.taken ∙ f.1)) (none_reserved s t (loaded s) goes.after tied.owes) (nothing_told t.told)
           (λ start past region lawful mine facts k. record { image = facts.image; rests = λ held calm. facts.rests (lock ∙ held) refl; work = (omega (arith, same.same.begun, facts.work.0), tt) }))
       go (Some kind) e is =
           subst (λ z. Tied (running_as o next z) t) (sym is.1)
-          (tied_after (running_as o running (PeekSequence peek)) (running_as o next (Load is.0)) s t (loaded s) (λ start past. ⊤) tied goes.after refl tied.ended
+          (tied_after (running_as o running (PeekSequence peek)) (running_as o next (Load is.0)) s t (loaded s) (λ start past. ⊤) tied goes.after refl tied.ended tied.handled
           (tied.holds ∙ lock) tied.deep tied.sound
-          ((λ some. same.taken ∙ tied.at.0 some), subst IsPlain (sym same.same.call) tied.at.1, (is.2.going, (λ none. let both = sym e ∙ (lock ∙ none) in absurd cc), looks_next)) tt (nothing_told t.told)
+          ((λ some. same.taken ∙ tied.at.0 some), subst IsPlain (sym same.same.call) tied.at.1, (is.2.going, (λ none. let both = sym e ∙ (lock ∙ none) in absurd cc), looks_next)) (none_reserved s t (loaded s) goes.after tied.owes) (nothing_told t.told)
           (λ start past region lawful mine facts k. record {
             image = facts.image;
             rests = λ held calm. facts.rests (lock ∙ held) refl;

@@ -28,7 +28,7 @@ use Rattle.opener.specs.declared.work.End.TheVariants as end
 use Rattle.opener.specs.declared.work.Stage.{Stage}
 use Rattle.opener.specs.declared.work.Stage.TheVariants.{Size}
 use Rattle.opener.specs.declared.work.Work.TheVariants.{Runs}
-use Rattle.opener.proofs.Carry.{tied_after}
+use Rattle.opener.proofs.Carry.{none_reserved, tied_after}
 use Rattle.opener.proofs.EndClauses.{EndHasReason, going_answer, going_call, going_cause, leaves_call, leaves_cause}
 use Rattle.opener.proofs.Leaves.{LeftWith, Leaving, leaves_tied, leaves_answer}
 
@@ -94,7 +94,7 @@ module _ (o mid : OpenerState) (i : Image) (running next : Running) (stage : Sta
   size_tied : is_write next.call ≡ true → Tied (running_as mid next Size) t
   size_tied write =
       tied_after (running_as o running stage) (running_as mid next Size) s t is.left (ReadyWith mid i next place) tied is.after is.who (is.alive ∙ tied.ended)
-      held deep is.sound (own, can_write next.call is.plain write, ((λ none. let both = sym kept ∙ none in absurd cc), looks write)) tt told
+      (is.handled ∙ tied.handled) held deep is.sound (own, can_write next.call is.plain write, ((λ none. let both = sym kept ∙ none in absurd cc), looks write)) (none_reserved s t is.left is.after is.places) told
       (λ start past region lawful lock facts e. sized start _ write e)
 
   -- how a call ends that the image answers

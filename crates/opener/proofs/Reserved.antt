@@ -18,7 +18,7 @@ use Rattle.opener.specs.State.{OpenerState}
 use Rattle.opener.specs.Calls.{IsPlain}
 use Rattle.opener.specs.Counted.{counted}
 use Rattle.opener.specs.Ends.{Leaves}
-use Rattle.opener.specs.Opener.{Tied, MayEnd, running_as}
+use Rattle.opener.specs.Opener.{Tied, MayEnd, PlanIs, running_as}
 use Rattle.opener.specs.Plans.{CanWrite, events_in, room_in}
 use Rattle.opener.specs.Writes.{IsSoundPlan, IsRowOf, PlanStarts, OwesPlan, first_events}
 use Rattle.opener.specs.declared.calls.Step.{Step}
@@ -96,13 +96,13 @@ module _ (o : OpenerState) (running : Running) (plan : Plan) (s t : ShareState) 
           room = within_more (room_in plan) (t.room t.who) (first_events plan) (omega (arith, room)) can.within;
           told = found.2;
         };
-        places = omega (arith, places, counted_is (events_in plan) can.few);
+        places = omega (arith, places, tied.owes, counted_is (events_in plan) can.few);
       }
 
   -- the stores are next
   pub reserved_tied : Goes (reserving (counted (events_in plan)) (room_in plan) s) s t → Tied (running_as o running (stage.Store plan)) t
   reserved_tied goes =
-      tied_after (running_as o running (stage.Reserve plan)) (running_as o running (stage.Store plan)) s t (reserving (counted (events_in plan)) (room_in plan) s) (λ start past. ⊤) tied goes.after refl tied.ended
+      tied_after (running_as o running (stage.Reserve plan)) (running_as o running (stage.Store plan)) s t (reserving (counted (events_in plan)) (room_in plan) s) (λ start past. ⊤) tied goes.after refl tied.ended tied.handled
       tied.holds tied.deep tied.sound (tied.at.0, tied.at.1, (tied.at.2.0, tied.at.2.2)) (reserved_owes goes) (nothing_told t.told)
       (λ start past region lawful lock facts e. record {
         image = facts.image;
@@ -120,12 +120,19 @@ module _ (o : OpenerState) (running : Running) (plan : Plan) (s t : ShareState) 
   module _ (goes : Goes (unmoved s) s t) where
     leaving : IsPlain running.call → Leaving o o running running s t
     leaving plain =
-        record { left = unmoved s; after = goes.after; alive = refl; lock = refl; who = refl; holds = refl; sound = tied.sound; taken = refl; plain = plain }
+        record { left = unmoved s; after = goes.after; alive = refl; lock = refl; places = tied.owes; who = refl; handled = refl; holds = refl; sound = tied.sound; taken = refl; plain = plain }
 
     pub unreserved_left : (why : Stop) → OnTold t.told (λ k. LeftWith o running (end.Stop why) k.start k.past)
     unreserved_left why =
         told_call (running_as o running (stage.Reserve plan)) s t (unmoved s) (λ start past. ⊤) (LeftWith o running (end.Stop why)) tied goes.after (nothing_told t.told)
         (λ start past region lawful lock facts e. record { begun = facts.work.0; image = facts.image; end_is = tt; rests = λ held. facts.rests held refl })
+
+    -- the plan is still the one that the call makes
+    pub unreserved_plan : OnTold t.told (λ k. PlanIs s.who running plan k.start k.past)
+    unreserved_plan =
+        subst (λ w. OnTold t.told (λ k. PlanIs w running plan k.start k.past)) (sym tied.who)
+        (told_call (running_as o running (stage.Reserve plan)) s t (unmoved s) (λ start past. ⊤) (PlanIs o.who running plan) tied goes.after (nothing_told t.told)
+        (λ start past region lawful lock facts e. facts.work.1.2))
 
     pub unreserved_tied : (why : Stop) (ended : ℕ) (result : Step) (new : OpenerState) → IsPlain running.call → MayEnd (end.Stop why) → Leaves running (end.Stop why) ended o result new → Tied new t
     unreserved_tied why ended result new plain may leaves =

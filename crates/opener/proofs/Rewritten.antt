@@ -1,5 +1,5 @@
 -- What an event of a plan leaves, and the end of a write.
-use Rattle.std.proofs.Common.{◌≡◌, ◌≢◌, ℕ, List, [], ◌∷◌, refl, sym, subst, ap, inr, lit≤}
+use Rattle.std.proofs.Common.{arith, ◌≡◌, ◌≢◌, ℕ, List, [], ◌∷◌, refl, sym, subst, ap, inr, lit≤}
 use Rattle.std.specs.Prelude.{◌-◌, Option, Some, None}
 use Rattle.expiring_map.specs.Map.{Map}
 use Rattle.change_log.specs.declared.call.Reply.TheVariants.{Done}
@@ -67,14 +67,14 @@ module _ (o : OpenerState) (running next : Running) (r b : Making) (map : Map) (
   pub rewritten_tied : (then : Option Making) → Tied (running_as o running (Store (Rewrite r then map))) s → Rewritten next b.standing then map ended o result new → Tied new t
   rewritten_tied (Some a) tied on = subst (λ (n : OpenerState). Tied n t) (sym on.1) (followed_tied o running next r b a map s t tied lock made stands done owing)
   rewritten_tied None tied written =
-      written_tied o running next (Rewrite r None map) r b map s t tied lock tied.at.1 tied.owes.row (ap room_of tied.owes.row_is) tied.owes.owing (λ start past leads. leads) refl tied.at.2.1.1 made stands done
+      written_tied o running next (Rewrite r None map) r b map s t tied lock tied.at.1 tied.owes.row (ap room_of tied.owes.row_is) tied.owes.owing (λ start past leads. leads) refl (omega arith) tied.at.2.1.1 made stands done
       (owing tied.owes.row tied.owes.owing) ended count result new written
 
   pub rewritten_answer : (then : Option Making) → Tied (running_as o running (Store (Rewrite r then map))) s → Rewritten next b.standing then map ended o result new →
       OnAnswer result (λ a. OnTold t.told (λ h. IsAnswer a h.start h.past))
   rewritten_answer (Some a) tied on = going_answer next (Store (Append a map)) o result new _ on
   rewritten_answer None tied written =
-      written_answer o running next (Rewrite r None map) r b map s t tied lock tied.at.1 tied.owes.row (ap room_of tied.owes.row_is) tied.owes.owing (λ start past leads. leads) refl tied.at.2.1.1 made stands done
+      written_answer o running next (Rewrite r None map) r b map s t tied lock tied.at.1 tied.owes.row (ap room_of tied.owes.row_is) tied.owes.owing (λ start past leads. leads) refl (omega arith) tied.at.2.1.1 made stands done
       (owing tied.owes.row tied.owes.owing) ended count result new written
 
   pub rewritten_call : (then : Option Making) → CanWrite running.call → Rewritten next b.standing then map ended o result new → KeepsCall o.who o.holds running result new

@@ -23,7 +23,7 @@ use Rattle.opener.specs.State.{OpenerState}
 use Rattle.opener.specs.Calls.{IsPlain}
 use Rattle.opener.specs.Continues.{SameCall}
 use Rattle.opener.specs.Ends.{Leaves, LeavesBy, OnImage, sized_image, lock_by}
-use Rattle.opener.specs.Opener.{Tied, Facts, HasCause, HasReason, ImageIs, IsImage, IsSeen, IsShown, running_as}
+use Rattle.opener.specs.Opener.{Tied, Facts, HasCause, HasReason, ImageIs, IsImage, IsSeen, IsShown, PlanIs, image_at, running_as}
 use Rattle.opener.specs.Writes.{commits_in}
 use Rattle.opener.specs.Plans.{CanWrite, IsNotPlanned, IsPlanOf, IsSoundImage, refusal_of}
 use Rattle.opener.specs.declared.calls.Step.{Step}
@@ -35,10 +35,10 @@ use Rattle.opener.specs.declared.work.Running.{Running}
 use Rattle.opener.specs.declared.work.End.TheVariants as end
 use Rattle.opener.specs.declared.work.Stage.TheVariants.{Size, Reserve}
 use Rattle.opener.specs.declared.work.Work.TheVariants.{Runs}
-use Rattle.opener.proofs.Carry.{told_call, told_from, tied_from}
+use Rattle.opener.proofs.Carry.{none_reserved, told_call, told_from, tied_from}
 use Rattle.opener.proofs.Leaves.{LeftWith, leaves_tied}
 use Rattle.opener.proofs.Planned.{planned_reserves, planned_sound, planned_commits}
-use Rattle.opener.proofs.Starting.{IsBeside, image_now, planned_leads, planned_starts}
+use Rattle.opener.proofs.Starting.{IsBeside, planned_leads, planned_starts}
 use Rattle.opener.proofs.Stopped.{nothing_told}
 use Rattle.opener.proofs.WriteStops.{IsOfWrite, stop_of_write}
 
@@ -125,6 +125,13 @@ module _ (o : OpenerState) (running next : Running) (size : ℕ) (s t : ShareSta
     of_call : AreOfCall o.who running.call running.now (commits_in plan) → AreOfCall o.who next.call next.now (commits_in plan)
     of_call are = subst (λ c. AreOfCall o.who c next.now (commits_in plan)) (sym same.call) (subst (λ n. AreOfCall o.who running.call n (commits_in plan)) (sym same.now) are)
 
+    -- the call makes it in the region as it is
+    plan_there : (start : Region) (past : List Event) (j : Image) → IsBeside j start past → IsPlanOf o.who running.call running.now j plan → PlanIs o.who next plan start past
+    plan_there start past j beside is_plan ok apart =
+        subst (λ c. IsPlanOf o.who c next.now (image_at start past) plan) (sym same.call)
+        (subst (λ n. IsPlanOf o.who running.call n (image_at start past) plan) (sym same.now)
+        (subst (λ i. IsPlanOf o.who running.call running.now i plan) (sym (beside.now apart).is) is_plan))
+
     made : (i : Image) → o.image ≡ Some i → i.standing.checksum < 2 ^ 32 → IsPlanOf o.who running.call running.now (sized_image i size) plan → Tied (running_as given next (Reserve plan)) t
     made i kept sum is_plan =
         let sound : IsSoundImage i = subst (λ k. OnImage k IsSoundImage) kept tied.sound in
@@ -132,9 +139,9 @@ module _ (o : OpenerState) (running next : Running) (size : ℕ) (s t : ShareSta
         let can : CanWrite running.call = tied.at.1 in
         let fits = sized_sound i size sound is in
         tied_from (running_as o running Size) (running_as given next (Reserve plan)) s t (loaded s) (λ start past. size ≡ file_size (region_after start past)) tied goes.after refl
-        tied.ended (tied.holds ∙ lock) tied.deep tt
+        tied.ended tied.handled (tied.holds ∙ lock) tied.deep tt
         ((λ some. taken ∙ tied.at.0 some), subst CanWrite (sym same.call) can, (sym lock ∙ tied.at.2.1, planned_reserves o.who running.call running.now j plan can fits is_plan, planned_sound o.who running.call running.now j plan can fits is_plan next same.call same.now, of_call (planned_commits o.who running.call running.now j plan can fits is_plan)))
-        tt told
+        (none_reserved s t (loaded s) goes.after tied.owes) told
         (λ start past ok region lawful lock_is facts e.
         let beside = beside_of o running i size start past kept ok region lawful tied.at.2.1 facts sound sum is e in
         record {
@@ -142,7 +149,7 @@ module _ (o : OpenerState) (running next : Running) (size : ℕ) (s t : ShareSta
           rests = λ held calm. facts.rests (lock ∙ held) refl;
           work = (
             omega (arith, same.begun, facts.work.0),
-            (planned_starts o.who start past j beside running.call running.now plan can is_plan next same.call same.now, planned_leads o.who start past j beside running.call running.now plan can is_plan),
+            (planned_starts o.who start past j beside running.call running.now plan can is_plan next same.call same.now, planned_leads o.who start past j beside running.call running.now plan can is_plan, plan_there start past j beside is_plan),
           );
         })
 
@@ -172,7 +179,9 @@ module _ (o : OpenerState) (running next : Running) (size : ℕ) (s t : ShareSta
           after = goes.after;
           alive = refl;
           lock = refl;
+          places = tied.owes;
           who = refl;
+          handled = refl;
           holds = refl;
           sound = tt;
           taken = taken;
@@ -196,7 +205,7 @@ module _ (o : OpenerState) (running next : Running) (size : ℕ) (s t : ShareSta
         (told_from (running_as o running Size) s t (loaded s) (λ start past. size ≡ file_size (region_after start past)) IsFound tied goes.after told
         (λ start past ok region lawful lock_is facts e good apart.
         let beside = beside_of o running i size start past kept ok region lawful tied.at.2.1 facts sound sum is e in
-        reason (image_now start past) (sized_image i size) (beside.now apart).is not))
+        reason (image_at start past) (sized_image i size) (beside.now apart).is not))
       where
         reason : (now j : Image) → now ≡ j → IsNotPlanned running.call running.now j stop → (stop ≡ why.Memory) ⊎ (refusal_of running.call running.now now.standing now.map ≡ Some stop)
         reason now j e (inl memory) = inl memory

@@ -24,12 +24,12 @@ use Rattle.opener.specs.State.{OpenerState}
 use Rattle.opener.specs.Calls.{IsPlain, is_write}
 use Rattle.opener.specs.Continues.{SameCall}
 use Rattle.opener.specs.Ends.{IsFresh, lock_by}
-use Rattle.opener.specs.Opener.{Tied, LooksUnder, Owes, IsCalm, running_as}
+use Rattle.opener.specs.Opener.{Tied, LooksUnder, IsCalm, is_storing, running_as}
 use Rattle.opener.specs.declared.work.Running.{Running}
 use Rattle.opener.specs.declared.work.Stage.{Stage}
 use Rattle.opener.specs.declared.work.Stage.TheVariants.{PeekChecksum, PeekSequence, LockShared, Load}
 use Rattle.opener.specs.declared.work.Work.TheVariants.{Runs}
-use Rattle.opener.proofs.Carry.{tied_after, changes_are, more_changes, image_later, own_if}
+use Rattle.opener.proofs.Carry.{none_reserved, owes_nothing, unreserved, tied_after, changes_are, more_changes, image_later, own_if}
 use Rattle.opener.proofs.Stopped.{nothing_told}
 
 -- a write looks at the region as the same call did
@@ -42,9 +42,9 @@ pub peeked_tied : (o : OpenerState) (running next : Running) (peek : Peek) (s t 
     Tied (running_as o next (PeekSequence peek)) t
 peeked_tied o running next peek s t tied same taken goes checksum changes =
     tied_after (running_as o running PeekChecksum) (running_as o next (PeekSequence peek)) s t (loaded s)
-    (λ start past. (peek.checksum ≡ checksum_at start past) × (peek.changes ≡ length (changes_of past))) tied goes.after refl tied.ended (tied.holds ∙ ap (lock_by o.holds) (sym taken)) tied.deep tied.sound
+    (λ start past. (peek.checksum ≡ checksum_at start past) × (peek.changes ≡ length (changes_of past))) tied goes.after refl tied.ended tied.handled (tied.holds ∙ ap (lock_by o.holds) (sym taken)) tied.deep tied.sound
     ((λ some. taken ∙ tied.at.0 some), subst IsPlain (sym same.call) tied.at.1, (tied.at.2.0, looks_on running next (lock_by o.holds next.taken) (lock_by o.holds running.taken) same.call (ap (lock_by o.holds) (sym taken)) tied.at.2.1))
-    tt (told_and t.told _ _ _ (λ h p q. (p, q)) checksum (changes_are t.told peek.changes changes))
+    (none_reserved s t (loaded s) goes.after tied.owes) (told_and t.told _ _ _ (λ h p q. (p, q)) checksum (changes_are t.told peek.changes changes))
     (λ start past region lawful lock facts e. record {
       image = facts.image;
       rests = λ held. facts.rests (ap (lock_by o.holds) (sym taken) ∙ held);
@@ -67,9 +67,11 @@ peeked_tied o running next peek s t tied same taken goes checksum changes =
 
 -- another stood against the lock
 pub busy_tied : (o : OpenerState) (running : Running) (stage : Stage) (kind : LockKind) (holder : ℕ) (s t : ShareState) → Tied (running_as o running stage) s →
-    Owes o (Runs running stage) t → Tries kind (Busy holder) s t → Tied (running_as o running stage) t
-busy_tied o running stage kind holder s t tied owes tries =
-    tied_after (running_as o running stage) (running_as o running stage) s t (refused s) (λ start past. ⊤) tied tries.0.after refl tied.ended tied.holds tied.deep tied.sound tied.at owes (nothing_told t.told)
+    is_storing (Runs running stage) ≡ false → Tries kind (Busy holder) s t → Tied (running_as o running stage) t
+busy_tied o running stage kind holder s t tied calm tries =
+    tied_after (running_as o running stage) (running_as o running stage) s t (refused s) (λ start past. ⊤) tied tries.0.after refl tied.ended tied.handled tied.holds tied.deep tied.sound tied.at
+    (owes_nothing (running_as o running stage) (Runs running stage) t calm
+    (none_reserved s t (refused s) tries.0.after (unreserved (running_as o running stage) (Runs running stage) s calm tied.owes))) (nothing_told t.told)
     (λ start past region lawful lock facts e. facts)
 
 -- after a lock is taken exclusive no row is under way
@@ -84,10 +86,10 @@ pub locked_tied : (o : OpenerState) (running next : Running) (loading : Loading)
     IsFresh loading → Tries Shared Taken s t → Tied (running_as o next (Load loading)) t
 locked_tied o running next loading s t tied same taken fresh tries =
     let mine : lock_by o.holds next.taken ≡ Some Shared = own_if o.holds next.taken tied.at.2.0 ∙ taken in
-    tied_after (running_as o running LockShared) (running_as o next (Load loading)) s t (locked Shared s) (λ start past. ⊤) tied tries.0.after refl tied.ended
+    tied_after (running_as o running LockShared) (running_as o next (Load loading)) s t (locked Shared s) (λ start past. ⊤) tied tries.0.after refl tied.ended tied.handled
     (sym mine) tied.deep tied.sound
     ((λ some. absurd (omega (arith, some, tied.at.2.0))), subst IsPlain (sym same.call) tied.at.1.0, (fresh.going, (λ none. let both = sym mine ∙ none in absurd cc), (λ write. let both = sym tied.at.1.1 ∙ ap is_write (sym same.call) ∙ write in absurd cc)))
-    tt (nothing_told t.told)
+    (none_reserved s t (locked Shared s) tries.0.after tied.owes) (nothing_told t.told)
     (λ start past region lawful lock facts e. record {
       image = image_later o.image start (event_of s.who (Lock Shared) ∷ []) past lawful facts.image;
       rests = λ held. let both = sym mine ∙ held in absurd cc;
@@ -103,6 +105,6 @@ pub loaded_tied : (o : OpenerState) (running next : Running) (old new : Loading)
 loaded_tied o running next old new s t tied same taken going goes told =
     let lock : lock_by o.holds running.taken ≡ lock_by o.holds next.taken = ap (lock_by o.holds) (sym taken) in
     tied_after (running_as o running (Load old)) (running_as o next (Load new)) s t (loaded s) (λ start past. HasLoaded new (region_after start past)) tied goes.after refl
-    tied.ended (tied.holds ∙ lock) tied.deep tied.sound
-    ((λ some. taken ∙ tied.at.0 some), subst IsPlain (sym same.call) tied.at.1, (going, (λ none. tied.at.2.1 (lock ∙ none)), looks_on running next _ _ same.call lock tied.at.2.2)) tt told
+    tied.ended tied.handled (tied.holds ∙ lock) tied.deep tied.sound
+    ((λ some. taken ∙ tied.at.0 some), subst IsPlain (sym same.call) tied.at.1, (going, (λ none. tied.at.2.1 (lock ∙ none)), looks_on running next _ _ same.call lock tied.at.2.2)) (none_reserved s t (loaded s) goes.after tied.owes) told
     (λ start past region lawful lock_is facts e. record { image = facts.image; rests = λ held. facts.rests (lock ∙ held); work = (omega (arith, same.begun, facts.work.0), e) })

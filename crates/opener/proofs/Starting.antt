@@ -38,7 +38,7 @@ use Rattle.region_words.proofs.StorableRows.{append_storable, write_back_storabl
 use Rattle.loader.specs.declared.loaded.Image.{Image}
 use Rattle.appender.specs.Appends.{CanAppend, appending}
 use Rattle.write_back.specs.Rewrites.{CanBegin, file_for, rewriting}
-use Rattle.opener.specs.Opener.{IsCalm}
+use Rattle.opener.specs.Opener.{IsCalm, image_at}
 use Rattle.opener.specs.Plans.{CanWrite, IsSoundImage, IsItemPlan, IsPlanOf, fits_behind}
 use Rattle.opener.specs.Writes.{IsOwn, MayStart, HasStanding, Leads, PlanLeads, PlanStarts, commits_of}
 use Rattle.opener.specs.declared.plan.Plan.{Plan}
@@ -46,13 +46,9 @@ use Rattle.opener.specs.declared.work.Running.{Running}
 use Rattle.opener.proofs.Leading.{continued_below, all_firm, all_grows, grown_first, versioned_first}
 use Rattle.opener.proofs.Planned.{IsEither, IsItemsPlan, LeavesMap, either_plan, planned_map, append_some, rewrite_some}
 
--- the image that a region shows whole, with the map of the history
-abbrev pub image_now : Region → List Event → Image
-image_now start past = record { standing = standing (region_after start past); map = map_after start past }
-
 pub record IsNow (j : Image) (start : Region) (past : List Event) : Type 0 where
   pub whole : shown (region_after start past) ≡ Whole j.standing.size
-  pub is : image_now start past ≡ j
+  pub is : image_at start past ≡ j
 
 -- This is known of the image, whatever the checksums are; and where they tell payloads apart, it is the image that is shown, no row is
 -- under way, and none has just made room.

@@ -9,7 +9,6 @@ use Rattle.region_words.specs.declared.stops.ShareStop.TheVariants.{Failed, Turn
 use Rattle.opener.specs.State.{OpenerState}
 use Rattle.opener.specs.Calls.{AfterStop}
 use Rattle.opener.specs.Continues.{SameCall}
-use Rattle.opener.specs.Plans.{events_in}
 use Rattle.opener.specs.Opener.{HasCause, HasReason, HasStopped, KeepsCall, MakesOne, OnAnswer, stop_found}
 use Rattle.opener.specs.declared.calls.Step.{Step}
 use Rattle.opener.specs.declared.calls.Step.TheVariants as step
@@ -53,9 +52,9 @@ pub stopped_call : (stop : ShareStop) (o : OpenerState) (running : Running) (sta
 stopped_call Turn o running stage result new after =
     subst (λ r. KeepsCall o.who o.holds running r new) (sym after.0)
     (subst (λ (n : OpenerState). KeepsCall o.who o.holds running step.Again n) (sym after.1) (same_call running, refl))
-stopped_call Failed o running stage result new after = subst (λ r. KeepsCall o.who o.holds running r new) (sym after.0) (after.4, after.2)
-stopped_call Memory o running stage result new after = subst (λ r. KeepsCall o.who o.holds running r new) (sym after.0) (after.1.3, after.1.1)
-stopped_call JournalFull o running stage result new after = subst (λ r. KeepsCall o.who o.holds running r new) (sym after.0) (after.1.3, after.1.1)
+stopped_call Failed o running stage result new after = subst (λ r. KeepsCall o.who o.holds running r new) (sym after.0) (after.5, after.3)
+stopped_call Memory o running stage result new after = subst (λ r. KeepsCall o.who o.holds running r new) (sym after.0) (after.1.4, after.1.2)
+stopped_call JournalFull o running stage result new after = subst (λ r. KeepsCall o.who o.holds running r new) (sym after.0) (after.1.4, after.1.2)
 
 -- nothing is answered
 pub stopped_answer : (stop : ShareStop) (o : OpenerState) (running : Running) (stage : Stage) (result : Step) (new : OpenerState) (P : Answer → Type 0) →
@@ -99,12 +98,10 @@ tried_cause kind JournalFull o running stage result new s t none after stops =
     subst (λ r. HasCause (Runs running stage) r new.work s t) (sym after.0) (reasoned (Runs running stage) why.JournalFull s t none (inl (kind, stops)))
 
 pub reserved_cause : (plan : _) (stop : ShareStop) (o : OpenerState) (running : Running) (result : Step) (new : OpenerState) (s t : ShareState) →
-    AfterStop stop o running (Reserve plan) result new → StopsReserving (events_in plan) stop s t → HasCause (Runs running (Reserve plan)) result new.work s t
+    AfterStop stop o running (Reserve plan) result new → Stops stop s t → HasCause (Runs running (Reserve plan)) result new.work s t
 reserved_cause plan Turn o running result new s t after stops =
     subst (λ r. HasCause (Runs running (Reserve plan)) r new.work s t) (sym after.0) (stops, ap (λ (n : OpenerState). n.work) after.1)
 reserved_cause plan Failed o running result new s t after stops =
     subst (λ r. HasCause (Runs running (Reserve plan)) r new.work s t) (sym after.0) stops
-reserved_cause plan Memory o running result new s t after stops =
-    subst (λ r. HasCause (Runs running (Reserve plan)) r new.work s t) (sym after.0) tt
-reserved_cause plan JournalFull o running result new s t after stops =
-    subst (λ r. HasCause (Runs running (Reserve plan)) r new.work s t) (sym after.0) (inr stops)
+reserved_cause plan Memory o running result new s t after stops = absurd stops
+reserved_cause plan JournalFull o running result new s t after stops = absurd stops

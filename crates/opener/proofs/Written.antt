@@ -26,7 +26,7 @@ use Rattle.region_words.proofs.Telling.{told_and}
 use Rattle.opener.specs.State.{OpenerState}
 use Rattle.opener.specs.Ends.{Written}
 use Rattle.opener.specs.Opener.{Tied, Facts, ChangeIs, OnAnswer, IsAnswer, running_as}
-use Rattle.opener.specs.Plans.{CanWrite, IsSoundImage}
+use Rattle.opener.specs.Plans.{CanWrite, IsSoundImage, events_in}
 use Rattle.opener.specs.Writes.{Leads, PlanLeads, HasMadeSoFar, commits_of, commits_in, image_after}
 use Rattle.opener.specs.declared.calls.Step.{Step}
 use Rattle.opener.specs.declared.plan.Plan.{Plan}
@@ -92,7 +92,7 @@ own_is_last who ended next past before made are begun all can count =
 -- The last event of a plan is made: these are the events of the plan, which lead to this map.
 module _ (o : OpenerState) (running next : Running) (plan : Plan) (k b : Making) (m : Map) (s t : ShareState) (tied : Tied (running_as o running (stage.Store plan)) s) (lock : SameLock running next)
     (can : CanWrite running.call) (row : Row) (calm : room_of row ≡ None) (own : IsOwing row k.events s) (leads : (start : Region) (past : List Event) → PlanLeads plan start past → Leads k m start past)
-    (commits : commits_in plan ≡ commits_of k.events) (sound : IsSoundImage (image_after k m)) (made : MakesFirst k.events b.events s t) (stands : b.standing ≡ k.standing) (done : b.events ≡ [])
+    (commits : commits_in plan ≡ commits_of k.events) (many : events_in plan ≡ length k.events) (sound : IsSoundImage (image_after k m)) (made : MakesFirst k.events b.events s t) (stands : b.standing ≡ k.standing) (done : b.events ≡ [])
     (owing : IsOwing row b.events t) (ended : ℕ) (count : ended ≡ changes_told t.told) where
   abbrev first : What
   first = made.0
@@ -132,6 +132,10 @@ module _ (o : OpenerState) (running next : Running) (plan : Plan) (k b : Making)
       (told_and t.told (λ k. RowOver t.who row first k.start k.past) (λ k. ended ≡ length (changes_of k.past)) _ (λ k p q. (p, q)) over (changes_are t.told ended count))
       (λ start past region lawful mine facts e. at_end start past region lawful facts e)
 
+  -- the event took the last place that was reserved
+  last_place : s.reserved s.who - 1 ≡ 0
+  last_place = let places = tied.owes.places in omega (arith, places, many, ap length made.1, ap length done)
+
   leaving : Leaving o mid running next s t
   leaving =
       record {
@@ -139,7 +143,9 @@ module _ (o : OpenerState) (running next : Running) (plan : Plan) (k b : Making)
         after = after;
         alive = refl;
         lock = refl;
+        places = last_place;
         who = refl;
+        handled = refl;
         holds = refl;
         sound = subst (λ z. IsSoundImage (record { standing = z; map = m })) (sym stands) sound;
         taken = lock.taken;

@@ -43,6 +43,29 @@ abbrev pub is_store : What → Bool
 is_store (what.Store side word value mark) = true
 is_store _ = false
 
+-- a store or a growth
+abbrev pub changes_region : What → Bool
+changes_region (what.Store side word value mark) = true
+changes_region (what.Grow size) = true
+changes_region _ = false
+
+-- the stores and growths of a call so far: none before its change is under way, and none where it is to stop
+abbrev pub AreStoredAt : Stage → List What → Type 0
+AreStoredAt (Store plan) stored = ⊤
+AreStoredAt (Unlock (end.Answer place reply)) stored = ⊤
+AreStoredAt _ stored = stored ≡ []
+
+abbrev pub AreStored : Work → List What → Type 0
+AreStored (Runs running stage) stored = AreStoredAt stage stored
+AreStored _ stored = ⊤
+
+-- and once a step came to this: a stop leaves the region as it was, unless the share failed
+abbrev pub AreStoredBy : Step → Work → List What → Type 0
+AreStoredBy (step.Answered a) new stored = ⊤
+AreStoredBy (step.Stopped Fault) new stored = ⊤
+AreStoredBy (step.Stopped why) new stored = stored ≡ []
+AreStoredBy _ new stored = AreStored new stored
+
 -- a growth is no store
 abbrev pub stores_in : List What → ℕ
 stores_in events = length (filter is_store events)
@@ -83,6 +106,7 @@ pub record Adds (who : ℕ) (running : Running) (stage : Stage) (result : Step) 
   pub grows : OnBoth s.told t.told (Grows s.who s.alone own)
   pub loaded : Loads loads s t
   pub made : (so_far : List Change) → AreMadeAt who running stage so_far → AreMadeBy who running result new (so_far ++ commits_of own)
+  pub stored : (so_far : List What) → AreStoredAt stage so_far → AreStoredBy result new (so_far ++ filter changes_region own)
   pub counts : Counts running loads (stores_in own) (locks_taken s.holds t.holds) result new
 
 -- what a step adds to the call that runs; where none runs, the share stays as it was

@@ -9,3 +9,5 @@ pub mod Writes
 pub mod Adds
 pub mod Bound
 pub mod Opener
+pub mod Settles
+pub mod Quiet

@@ -1,5 +1,5 @@
 -- An opener and the share that it uses.
-use Rattle.std.specs.Prelude.{◌≡◌, ◌≢◌, ℕ, ◌<◌, ◌≤◌, ◌⊎◌, Bool, true, false, List, ◌++◌, length, take, slice_get, Option, Some, None, IfSome, Err, ⊤}
+use Rattle.std.specs.Prelude.{◌≡◌, ◌≢◌, ℕ, ◌<◌, ◌≤◌, ◌⊎◌, Bool, true, false, not, List, ◌++◌, length, take, slice_get, Option, Some, None, IfSome, Err, ⊤}
 use Rattle.change_log.specs.Acts.{act_of, replay}
 use Rattle.change_log.specs.History.{reply_in, IsMade}
 use Rattle.change_log.specs.Settled.{AreOfCall}
@@ -9,6 +9,7 @@ use Rattle.change_log.specs.declared.call.Reply.{Reply}
 use Rattle.change_log.specs.declared.call.Answer.{Answer}
 use Rattle.meta_record.specs.Records.{checked}
 use Rattle.meta_record.specs.declared.record.RecordFault.TheVariants as fault
+use Rattle.meta_record.specs.declared.shown.Shown.TheVariants.{Whole}
 use Rattle.lock_rules.specs.declared.table.LockKind.{LockKind}
 use Rattle.lock_rules.specs.declared.table.LockKind.TheVariants.{Exclusive}
 use Rattle.lock_rules.specs.declared.table.Tried.TheVariants.{Busy}
@@ -29,7 +30,8 @@ use Rattle.loader.specs.declared.loaded.Image.{Image}
 use Rattle.opener.specs.Calls.{IsPlain, holds_after, is_write}
 use Rattle.opener.specs.Continues.{SameCall}
 use Rattle.opener.specs.Ends.{OnImage, lock_by}
-use Rattle.opener.specs.Plans.{CanWrite, IsSoundImage, events_in, refusal_of}
+use Rattle.opener.specs.Plans.{CanWrite, IsPlanOf, IsSoundImage, events_in, refusal_of}
+use Rattle.opener.specs.declared.plan.Plan.{Plan}
 use Rattle.opener.specs.State.{OpenerState}
 use Rattle.opener.specs.Writes.{CanReserve, IsSoundPlan, PlanLeads, PlanStarts, HasMadeSoFar, OwesPlan, commits_in}
 use Rattle.opener.specs.declared.calls.Step.{Step}
@@ -155,7 +157,7 @@ ChangeIs who running place past =
 
 -- what a call of this kind finds in the region is the reason to stop
 abbrev pub StopIs : Running → Stop → Region → List Event → Type 0
-StopIs running (NotWhole seen) start past = shown (region_after start past) ≡ seen
+StopIs running (NotWhole seen) start past = (shown (region_after start past) ≡ seen) × ((n : ℕ) → seen ≢ Whole n)
 StopIs running (Version n) start past = let r = region_after start past in checked (record_of r) (header r) ≡ Err (fault.Version n)
 StopIs running (Flags n) start past = let r = region_after start past in checked (record_of r) (header r) ≡ Err (fault.Flags n)
 StopIs running Memory start past = ⊤
@@ -169,13 +171,21 @@ EndIs who (end.Answer place reply) running start past =
     (running.begun ≤ place) × (place ≤ length (changes_of past)) × ReplyIs running.call running.now reply place start past × ChangeIs who running place past
 EndIs who (end.Stop why) running start past = ⊤
 
+-- the image that the region shows, with the map of the history
+abbrev pub image_at : Region → List Event → Image
+image_at start past = record { standing = standing (region_after start past); map = map_after start past }
+
+-- the plan is the one that the running call makes in the region as it is
+abbrev pub PlanIs : ℕ → Running → Plan → Region → List Event → Type 0
+PlanIs who running plan start past = IsAccepted start → Apart start past → IsPlanOf who running.call running.now (image_at start past) plan
+
 -- what each stage knows of the journal
 abbrev pub StageIs : OpenerState → Running → Stage → Region → List Event → Type 0
 StageIs o running (PeekSequence peek) start past =
     WasPeeked o.image peek running.begun start past × (lock_by o.holds running.taken ≡ Some Exclusive → peek.checksum ≡ checksum_at start past)
 StageIs o running (Load loading) start past = HasLoaded loading (region_after start past)
 StageIs o running Size start past = OnImage o.image (λ i. IsAccepted start → Apart start past → IsShown i start past)
-StageIs o running (Reserve plan) start past = PlanStarts o.who running plan start past × PlanLeads plan start past
+StageIs o running (Reserve plan) start past = PlanStarts o.who running plan start past × PlanLeads plan start past × PlanIs o.who running plan start past
 StageIs o running (Store plan) start past = PlanLeads plan start past × HasMadeSoFar o.who running plan past
 StageIs o running (Unlock how) start past = EndIs o.who how running start past
 StageIs o running _ start past = ⊤
@@ -200,16 +210,17 @@ pub record Knows (o : OpenerState) (s : ShareState) (h : History) : Type 0 where
   pub accepted : IsAccepted h.start
   pub facts : Facts o h.start h.past
 
--- the stores to come are owed
+-- the stores to come are owed; where none are to come, no place is reserved
 abbrev pub Owes : OpenerState → Work → ShareState → Type 0
 Owes o (Runs running (Store plan)) s = OwesPlan o.who running plan s
-Owes o _ s = ⊤
+Owes o _ s = s.reserved s.who ≡ 0
 
--- the share stands as the opener's last call left it
+-- the share stands as the opener's last call left it; until its end the opener has its handler
 pub record Tied (o : OpenerState) (s : ShareState) : Type 0 where
   pub who : s.who ≡ o.who
   pub maker : (1 ≤ o.who) × (o.who ≤ 64)
   pub ended : s.ended ≡ is_ended o.work
+  pub handled : o.handled ≡ not (is_ended o.work)
   pub holds : s.holds ≡ lock_in o.holds o.work
   pub deep : o.holds ≤ 1000
   pub sound : OnImage o.image IsSoundImage
@@ -269,9 +280,10 @@ abbrev pub stop_found : Work → Option Stop
 stop_found (Runs running (Unlock (end.Stop why))) = Some why
 stop_found _ = None
 
--- the share had no places for the stores of the plan
+-- the share had no places for the stores that the call makes in the region as it is
 abbrev pub HasNoPlaces : Work → ShareState → ShareState → Type 0
-HasNoPlaces (Runs running (Reserve plan)) s t = StopsReserving (events_in plan) stop.JournalFull s t
+HasNoPlaces (Runs running (Reserve plan)) s t =
+    StopsReserving (events_in plan) stop.JournalFull s t × (s.reserved s.who ≡ 0) × OnTold t.told (λ h. PlanIs s.who running plan h.start h.past)
 HasNoPlaces _ s t = ⊥
 
 -- why a call stops

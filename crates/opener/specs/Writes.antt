@@ -109,9 +109,9 @@ pub record HasMadeSoFar (who : ℕ) (running : Running) (plan : Plan) (past : Li
   pub begun : running.begun ≤ length before
   pub all : AreOfCall who running.call running.now (made ++ commits_in plan)
 
--- the share owes the events of the plan: it holds exclusive, and has places and room for them
+-- the share owes the events of the plan: it holds exclusive, and has room and just as many places for them
 pub record OwesPlan (who : ℕ) (running : Running) (plan : Plan) (s : ShareState) : Type 0 where
   pub row : Row
   pub row_is : IsRowOf who running row plan
   pub owing : IsOwing row (first_events plan) s
-  pub places : events_in plan ≤ s.reserved s.who
+  pub places : s.reserved s.who ≡ events_in plan

@@ -2,6 +2,7 @@
 #![tactic(auto)]
 
 mod calls;
+mod laws;
 mod opener;
 mod plan;
 mod reads;
@@ -15,4 +16,5 @@ mod write_tests;
 mod writes;
 
 pub use calls::{NotBegun, Refused, Step, Stop};
+pub use laws::an_opener_that_is_settled_is_legal;
 pub use opener::Opener;

@@ -1,11 +1,13 @@
 // An opener: what it keeps between its calls, and its steps.
-ghost use Rattle.std.specs.Prelude.{◌≡◌, ℕ, ◌+◌, ◌*◌, ◌≤◌, None, Some, IfOk, IfErr, OnErr, OnOk};
+ghost use Rattle.std.specs.Prelude.{◌≡◌, ℕ, ◌+◌, ◌*◌, ◌≤◌, None, Some, true, IfOk, IfErr, OnErr, OnOk};
 ghost use Rattle.region_words.specs.Told.{OnTold, changes_told as changes_seen};
 ghost use Rattle.opener.specs.Calls.{IsBuilt};
 ghost use Rattle.opener.specs.Begins.{Begins, HasBytes, IsFirst, begun_at, refusal};
 ghost use Rattle.opener.specs.Adds.{Adds, AddsTo};
 ghost use Rattle.opener.specs.Opener.{Tied, running_as, HasCause, IsAnswer, KeepsCall, KeepsWork, OnAnswer, MakesOne, stop_found};
 ghost use Rattle.opener.specs.Bound.{Falls, steps_left};
+ghost use Rattle.opener.specs.Settles.{BeginsSettled, Settles};
+ghost use Rattle.opener.specs.Quiet.{ShowsQuietly};
 
 use crate::calls::{NotBegun, Refused, Step, Stop};
 use crate::plan::Plan;
@@ -36,12 +38,13 @@ impl Model for Opener {
     ghost use Rattle.std.specs.Coded.{codes};
     ghost use Rattle.expiring_map.specs.contracts.map.ExpiringMap as map;
     ghost use Rattle.opener.specs.State.{OpenerState};
+    ghost use Rattle.std.specs.Prelude.{is_some};
 
     ghost Value = { OpenerState };
 
     ghost coded = { Prim.hlevel (codes, map.the_row.coded) };
 
-    ghost view = { λ o. record { who = o.who; image = o.image; holds = o.holds; work = o.work } };
+    ghost view = { λ o. record { who = o.who; handled = is_some o.handler; image = o.image; holds = o.holds; work = o.work } };
 }
 
 impl Opener {
@@ -49,7 +52,7 @@ impl Opener {
     pub fn new(alloc: Global, who: u32, handler: Box<dyn Handler + Send>) -> Opener
         requires least { 1 ≤ who }
         requires most { who ≤ 64 }
-        ensures { result ≡ record { who = who; image = None; holds = 0; work = Work.Idle } }
+        ensures { result ≡ record { who = who; handled = true; image = None; holds = 0; work = Work.Idle } }
     {
         Opener {
             alloc,
@@ -72,6 +75,7 @@ impl Opener {
         ensures refused { IfErr result (λ n. (refusal self.old call ≡ Some n.why) × (n.call ≡ call)) }
         ensures same { OnErr result (self.new ≡ self.old) }
         ensures bound { OnOk result ((words : ℕ) → steps_left words self.new.work ≤ 6 * words + 100) }
+        ensures settles { OnOk result (BeginsSettled self.old self.new (S.state share.now)) }
     {
         if let Some(why) = self.refusal(&call) {
             return Err(NotBegun { why, call });
@@ -120,6 +124,8 @@ impl Opener {
         ensures cause { HasCause self.old.work result self.new.work (S.state share.old) (S.state share.new) }
         ensures answer { OnAnswer result (λ a. OnTold (S.state share.new).told (λ h. IsAnswer a h.start h.past)) }
         ensures falls { Falls self.old.work result self.new.work (S.state share.new) }
+        ensures settles { Settles self.old result self.new (S.state share.old) (S.state share.new) }
+        ensures quiet { ShowsQuietly self.new.who self.new.work (S.state share.new) }
     {
         match mem::replace(&mut self.work, Work::Idle) {
             Work::Idle => Step::Idle,

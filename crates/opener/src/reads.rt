@@ -180,7 +180,7 @@ impl Opener {
 
 // What an opener is left with.
 impl Opener {
-    ghost use Rattle.std.specs.Prelude.{◌≡◌, ◌≢◌, ◌<◌, ◌≤◌, None, Some};
+    ghost use Rattle.std.specs.Prelude.{◌≡◌, ◌≢◌, ◌<◌, ◌≤◌, None, Some, false};
     ghost use Rattle.opener.specs.Calls.{AfterStop};
     ghost use Rattle.opener.specs.Ends.{GoesOn, Waits, IsDone, Finishes, Leaves, Reads, Notices, IsLoaded, IsReady, OnImage, is_current};
 
@@ -217,7 +217,7 @@ impl Opener {
     fn die(&mut self) -> Step
         ensures step { result ≡ Step.Stopped Stop.Fault }
         ensures who { self.new.who ≡ self.old.who }
-        ensures left { (self.new.holds ≡ 0) × (self.new.image ≡ None) × (self.new.work ≡ Work.Ended) }
+        ensures left { (self.new.handled ≡ false) × (self.new.holds ≡ 0) × (self.new.image ≡ None) × (self.new.work ≡ Work.Ended) }
     {
         self.handler = None;
         self.holds = 0;

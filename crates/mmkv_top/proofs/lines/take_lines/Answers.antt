@@ -13,7 +13,7 @@ returns-in-Err-clause-halted g c =
     let texts = texts_of c.args.script.now in
     let taken = subst (λ (x : List (List ℕ)). IsTaken stock (stock_of c.loop-line.handlers) start texts (map without_feed x) c.loop-line.player c.loop-line.count) c.in-Some.ensures.steps c.loop-line.invariant.1 in
     stops_there stock (stock_of c.loop-line.handlers) start texts (map without_feed c.next.new.self) (without_feed c.in-Some.line.now) c.loop-line.player c.loop-line.count c.in-Err.why c.loop-line.invariant.0 taken
-    (subst (λ x. TextHalts stock taken.parts c.loop-line.count x c.in-Err.why) c.text_of.ensures (c.in-Err.ensures.taken stock start taken.parts taken.at))
+    (subst (λ x. TextHalts stock start taken.parts c.loop-line.count x c.in-Err.why) c.text_of.ensures (c.in-Err.ensures.taken stock start taken.parts taken.at))
 
 pub loop-line-preserved : goal.loop-line-preserved
 loop-line-preserved g c =

@@ -1,5 +1,5 @@
 use Rattle.std.proofs.Common.{ℕ, ap, ◌∙◌}
-use Rattle.std.specs.Prelude.{None}
+use Rattle.std.specs.Prelude.{None, true}
 use Rattle.opener.proofs.Begun.{new_tied}
 use Rattle.opener.specs.State.{OpenerState}
 use Rattle.opener.specs.declared.work.Work.TheVariants.{Idle}
@@ -7,7 +7,7 @@ use Rattle.region_words.specs.Local.{seat_state}
 use Rattle.mmkv_top.proofs.player.opener_at.Goals as goal
 
 abbrev new_opener : ℕ → OpenerState
-new_opener who = record { who = who; image = None; holds = 0; work = Idle }
+new_opener who = record { who = who; handled = true; image = None; holds = 0; work = Idle }
 
 pub returns-clause-tied : goal.returns-clause-tied
 returns-clause-tied g c =

@@ -3,7 +3,7 @@ use Rattle.std.specs.Prelude.{None}
 use Rattle.region_words.specs.Local.{Seated}
 use Rattle.region_words.specs.Region.{IsAccepted}
 use Rattle.mmkv_top.specs.State.{PlayerState}
-use Rattle.mmkv_top.proofs.Opening.{none_of, fresh_past, fresh_accepted, lock_free, stock_had, open_taken}
+use Rattle.mmkv_top.proofs.Opening.{none_of, first_in, fresh_accounts, fresh_past, fresh_accepted, lock_free, stock_had, open_halted, open_taken, places_there}
 use Rattle.mmkv_top.proofs.player.Player.open.Goals as goal
 
 pub opener_at-requires-clause-free : goal.opener_at-requires-clause-free
@@ -27,5 +27,15 @@ returns-clause-taken g c =
     (ap (λ (s : Seated). s.region.start) c.in_ok-admit.ensures.ok ∙ ap (λ (x : PlayerState). x.seat.region.start) c.self.view_is)
     (ap (λ (s : Seated). s.region.past) c.in_ok-admit.ensures.ok ∙ ap (λ (x : PlayerState). x.seat.region.past) c.self.view_is)
     (ap (λ (s : Seated). s.region.failing.listed) c.in_ok-admit.ensures.ok ∙ ap (λ (x : PlayerState). x.seat.region.failing.listed) c.self.view_is)
+    (first_in c.self.inside.seat c.admit.new.self (ap (λ (x : PlayerState). x.seat.region.accounts) c.self.view_is ∙ fresh_accounts c.args.self.now none c.requires.ready) c.in_ok-admit.ensures.ok)
     refl (ap (λ (x : PlayerState). x.outcomes) c.self.view_is) c.opener_at.ensures.tied c.opener_at.ensures.new
     (ap (λ (s : Seated). s.who) c.in_ok-admit.ensures.ok ∙ ap (λ (x : PlayerState). x.seat.who) c.self.view_is ∙ c.requires.ready.0) at
+
+pub returns-in_err-admit-clause-taken : goal.returns-in_err-admit-clause-taken
+returns-in_err-admit-clause-taken g c =
+    let none : c.args.self.now.opener ≡ None = sym (ap (λ (x : PlayerState). x.opener) c.self.view_is) ∙ none_of c.self.inside.opener (sym c.is_some.ensures ∙ c.if-is_some.false) in
+    let same : c.self.inside.seat ≡ c.args.self.now.seat = ap (λ (x : PlayerState). x.seat) c.self.view_is in
+    λ stock start parts at.
+    open_halted stock _ start parts _ _ c.from_residual.result c.in_err-admit.field-0.0 c.from_residual.ensures.1
+    (places_there c.self.inside.seat.region c.in_err-admit.field-0.0 (ap (λ (s : Seated). s.region.past) same ∙ fresh_past c.args.self.now none c.requires.ready)
+    (ap (λ (s : Seated). s.region.accounts) same ∙ fresh_accounts c.args.self.now none c.requires.ready) c.in_err-admit.ensures.err)

@@ -10,5 +10,5 @@ returns-in-Ok-clause-taken g c = λ stock left start parts at.
 
 pub returns-in-Err-clause-taken : goal.returns-in-Err-clause-taken
 returns-in-Err-clause-taken g c = λ stock left start parts at.
-    steps_halted stock left start parts c.args.self.now c.in-Some.opener c.args.who c.args.count c.in-Err.why c.if-who-ne-OPENER.false c.requires.ready.0
-    (sym (ap (λ (x : PlayerState). x.opener) c.self.view_is) ∙ c.in-Some.is) c.in-Err.ensures.err at
+    steps_halted stock left start parts c.args.self.now c.in-Some.opener c.self.inside.seat c.args.who c.args.count c.in-Err.why c.if-who-ne-OPENER.false c.requires.ready.0
+    (ap (λ (x : PlayerState). x.seat) c.self.view_is) (sym (ap (λ (x : PlayerState). x.opener) c.self.view_is) ∙ c.in-Some.is) c.in-Err.ensures.halted at

@@ -68,7 +68,7 @@ returns-in-Ok-Done-clause-tied g c =
     let left = c.requires.owes in
     let written = subst (λ z. Written next (record { standing = z; map = c.args.map }) c.changes.result o c.written.result c.written.new.self) c.standing.ensures c.written.ensures in
     written_tied o c.args.running next (Append a c.args.map) a b c.args.map s t c.requires (stored_same c.next-event.result c.args.running next c.with_event-in-Ok-Done.ensures) c.requires.at.1 left.row (ap room_of left.row_is.1) left.owing
-    (λ start past leads. leads) refl c.requires.at.2.1.1 did.made did.kept.1 (all_made b.events (sym did.stored ∙ c.in-Ok-Done.field-0-is)) (did.owing left.row left.owing) c.changes.result c.changes.ensures
+    (λ start past leads. leads) refl refl c.requires.at.2.1.1 did.made did.kept.1 (all_made b.events (sym did.stored ∙ c.in-Ok-Done.field-0-is)) (did.owing left.row left.owing) c.changes.result c.changes.ensures
     c.written.result c.written.new.self written
 
 pub returns-in-Ok-Done-clause-makes : goal.returns-in-Ok-Done-clause-makes
@@ -97,7 +97,7 @@ returns-in-Ok-Done-clause-answer g c =
     let left = c.requires.owes in
     let written = subst (λ z. Written next (record { standing = z; map = c.args.map }) c.changes.result o c.written.result c.written.new.self) c.standing.ensures c.written.ensures in
     written_answer o c.args.running next (Append a c.args.map) a b c.args.map s t c.requires (stored_same c.next-event.result c.args.running next c.with_event-in-Ok-Done.ensures) c.requires.at.1 left.row (ap room_of left.row_is.1) left.owing
-    (λ start past leads. leads) refl c.requires.at.2.1.1 did.made did.kept.1 (all_made b.events (sym did.stored ∙ c.in-Ok-Done.field-0-is)) (did.owing left.row left.owing) c.changes.result c.changes.ensures
+    (λ start past leads. leads) refl refl c.requires.at.2.1.1 did.made did.kept.1 (all_made b.events (sym did.stored ∙ c.in-Ok-Done.field-0-is)) (did.owing left.row left.owing) c.changes.result c.changes.ensures
     c.written.result c.written.new.self written
 
 pub returns-in-Err-clause-tied : goal.returns-in-Err-clause-tied

@@ -1,10 +1,12 @@
 use Rattle.std.proofs.Common.{ℕ, ◌+◌, ◌*◌, ◌≤◌, sym, subst, ap, ◌∙◌}
+use Rattle.opener.specs.Begins.{begun_at}
 use Rattle.opener.specs.Bound.{steps_left}
 use Rattle.opener.specs.Opener.{running_as}
 use Rattle.opener.specs.State.{OpenerState}
 use Rattle.opener.specs.declared.work.Running.{Running}
 use Rattle.opener.proofs.Begun.{begun_tied}
 use Rattle.opener.proofs.Falling.{first_bound}
+use Rattle.opener.proofs.Settles.{begin_settles}
 use Rattle.opener.proofs.opener.Opener.begin.Goals as goal
 
 pub returns-clause-tied : goal.returns-clause-tied
@@ -18,3 +20,13 @@ returns-clause-bound g c =
     let o = c.args.self.now in
     subst (λ (n : OpenerState). (words : ℕ) → steps_left words n.work ≤ 6 * words + 100) (sym c.run.ensures)
     (first_bound o.image o.holds c.args.call c.first_stage-stage.result c.first_stage-stage.ensures)
+
+pub returns-clause-settles : goal.returns-clause-settles
+returns-clause-settles g c =
+    let o = c.args.self.now in
+    begin_settles (g.S.Share.state c.args.share.now) c.args.call c.args.now o c.run.new.self (sym c.refusal.ensures.why ∙ c.in_default.is)
+    (record {
+      next = c.first_stage-stage.result;
+      first = c.first_stage-stage.ensures;
+      work = c.run.ensures ∙ ap (λ (r : Running). running_as o r c.first_stage-stage.result) (c.begun_at.ensures ∙ ap (begun_at c.args.call c.args.now) c.changes-begun.ensures);
+    })

@@ -14,6 +14,7 @@ use Rattle.opener.proofs.Added.{adds_nothing, tried_adds, waits_adds}
 use Rattle.opener.proofs.AddsBy.{lock_done}
 use Rattle.opener.proofs.Adding.{done_made, done_counts, none_more, holds_none}
 use Rattle.opener.proofs.Falling.{blocked_falls, done_falls, stopped_falls}
+use Rattle.opener.proofs.Storing.{calm_stored}
 use Rattle.opener.proofs.opener.Opener.hold.Goals as goal
 
 pub returns-in-Ok-Taken-clause-tied : goal.returns-in-Ok-Taken-clause-tied
@@ -37,7 +38,7 @@ returns-in-Ok-Busy-clause-tied g c =
     let s = g.S.Share.state c.args.share.now in
     let t = g.S.Share.state c.try_lock.new.self in
     let tries = subst (λ tried. Tries Exclusive tried s t) c.in-Ok-Busy.field-0-is c.in-Ok-Busy.ensures.ok in
-    subst (λ (n : OpenerState). Tied n t) (sym c.blocked.ensures.1) (busy_tied c.args.self.now c.args.running Hold Exclusive c.in-Ok-Busy.holder s t c.requires tt tries)
+    subst (λ (n : OpenerState). Tied n t) (sym c.blocked.ensures.1) (busy_tied c.args.self.now c.args.running Hold Exclusive c.in-Ok-Busy.holder s t c.requires refl tries)
 
 pub try_lock-requires-clause-free : goal.try_lock-requires-clause-free
 try_lock-requires-clause-free g c =
@@ -55,7 +56,7 @@ pub returns-then-self-gt0-clause-adds : goal.returns-then-self-gt0-clause-adds
 returns-then-self-gt0-clause-adds g c =
     let o = c.args.self.now in
     let s = g.S.Share.state c.args.share.now in
-    adds_nothing o.who c.args.running Hold c.done.result c.done.new.self.work s
+    adds_nothing o.who c.args.running Hold c.done.result c.done.new.self.work s (calm_stored Hold c.done.result c.done.new.self.work (λ stored none. none))
     (λ so_far are. done_made o.who c.args.running c.args.running o c.done.result c.done.new.self _ c.changes.result so_far c.done.ensures (holds_none o.who c.args.running so_far c.requires.at.1 are))
     (done_counts o.who c.args.running c.args.running o c.done.result c.done.new.self _ c.changes.result 0 0 0 c.done.ensures (none_more c.args.running))
 
@@ -66,7 +67,7 @@ returns-in-Ok-Taken-clause-adds g c =
     let t = g.S.Share.state c.try_lock.new.self in
     let tries = subst (λ tried. Tries Exclusive tried s t) c.in-Ok-Taken.field-0-is c.in-Ok-Taken.ensures.ok in
     let none : o.holds ≡ 0 = omega (arith, c.if-self-gt0.false, ap (λ (o : OpenerState). o.holds) c.self.view_is) in
-    lock_done o.who c.args.running c.with_lock.result Hold o c.done-in-Ok-Taken.result c.done-in-Ok-Taken.new.self s t Exclusive 1 c.changes-in-Ok-Taken.result tries.0
+    lock_done o.who c.args.running c.with_lock.result Hold o c.done-in-Ok-Taken.result c.done-in-Ok-Taken.new.self s t (λ stored none. none) Exclusive 1 c.changes-in-Ok-Taken.result tries.0
     (c.requires.holds ∙ own_if o.holds c.args.running.taken none ∙ c.requires.at.2.1) c.with_lock.ensures c.done-in-Ok-Taken.ensures (λ so_far are. holds_none o.who c.args.running so_far c.requires.at.1 are)
 
 pub returns-in-Ok-Busy-clause-adds : goal.returns-in-Ok-Busy-clause-adds
@@ -80,7 +81,7 @@ returns-in-Ok-Busy-clause-adds g c =
 pub returns-in-Err-clause-adds : goal.returns-in-Err-clause-adds
 returns-in-Err-clause-adds g c =
     let o = c.args.self.now in
-    tried_adds o.who o c.args.running Hold c.stopped.result c.stopped.new.self (g.S.Share.state c.args.share.now) (g.S.Share.state c.try_lock.new.self) Exclusive c.in-Err.stop (λ so_far are. are)
+    tried_adds o.who o c.args.running Hold c.stopped.result c.stopped.new.self (g.S.Share.state c.args.share.now) (g.S.Share.state c.try_lock.new.self) (λ stored none. none) Exclusive c.in-Err.stop (λ so_far are. are)
     c.stopped.ensures c.in-Err.ensures.err
 
 pub returns-in-Ok-Taken-clause-falls : goal.returns-in-Ok-Taken-clause-falls

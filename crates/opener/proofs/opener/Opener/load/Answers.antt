@@ -150,7 +150,7 @@ returns-in-Ok-Going-clause-adds g c =
     let o = c.args.self.now in
     let s = g.S.Share.state c.args.share.now in
     let t = g.S.Share.state c.step.new.share in
-    load_goes o.who c.args.running c.with_load.result (Load c.args.loading) o c.going.result c.going.new.self s t (Load c.step.new.self) c.in-Ok-Going.ensures.goes c.with_load.ensures c.going.ensures (λ so_far are. are)
+    load_goes o.who c.args.running c.with_load.result (Load c.args.loading) o c.going.result c.going.new.self s t (λ stored none. none) (Load c.step.new.self) c.in-Ok-Going.ensures.goes c.with_load.ensures c.going.ensures (λ so_far are. are)
 
 pub returns-in-Ok-Done-clause-adds : goal.returns-in-Ok-Done-clause-adds
 returns-in-Ok-Done-clause-adds g c =
@@ -158,9 +158,9 @@ returns-in-Ok-Done-clause-adds g c =
     let s = g.S.Share.state c.args.share.now in
     let t = g.S.Share.state c.step.new.share in
     let next = c.with_load-in-Ok-Done.result in
-    load_loaded o.who c.args.running next (Load c.args.loading) o c.loaded.result c.loaded.new.self s t c.finish.result c.changes.result c.in-Ok-Done.ensures.goes c.with_load-in-Ok-Done.ensures c.requires.at.1
+    load_loaded o.who c.args.running next (Load c.args.loading) o c.loaded.result c.loaded.new.self s t (λ stored none. none) c.finish.result c.changes.result c.in-Ok-Done.ensures.goes c.with_load-in-Ok-Done.ensures c.requires.at.1
     c.loaded.ensures (λ so_far are. are)
-    (λ place i ready. load_ready o.who c.args.running next (Load c.args.loading) (record o { image = Some i }) c.loaded.result c.loaded.new.self s t place place i c.in-Ok-Done.ensures.goes
+    (λ place i ready. load_ready o.who c.args.running next (Load c.args.loading) (record o { image = Some i }) c.loaded.result c.loaded.new.self s t (λ stored none. none) place place i c.in-Ok-Done.ensures.goes
     c.with_load-in-Ok-Done.ensures c.requires.at.1 refl ready (λ so_far are. are))
 
 pub returns-in-Err-Share-clause-adds : goal.returns-in-Err-Share-clause-adds
@@ -179,7 +179,7 @@ returns-in-Err-Record-clause-adds g c =
     let t = g.S.Share.state c.step.new.share in
     let stops = subst (λ stop. StopsLoading stop s t) c.in-Err-Record.field-0-is c.in-Err-Record.ensures.err in
     let left = subst (λ w. Leaves c.with_load-in-Err-Record.result (end.Stop w) c.changes-in-Err-Record.result o c.leave.result c.leave.new.self) c.stop_of.ensures c.leave.ensures in
-    load_leaves o.who c.args.running c.with_load-in-Err-Record.result (Load c.args.loading) o c.leave.result c.leave.new.self s t (end.Stop (stop_of c.in-Err-Record.fault)) c.changes-in-Err-Record.result stops.0
+    load_leaves o.who c.args.running c.with_load-in-Err-Record.result (Load c.args.loading) o c.leave.result c.leave.new.self s t (λ stored none. none) (end.Stop (stop_of c.in-Err-Record.fault)) c.changes-in-Err-Record.result stops.0
     c.with_load-in-Err-Record.ensures left (λ so_far are. are)
 
 pub returns-in-Err-Memory-clause-adds : goal.returns-in-Err-Memory-clause-adds
@@ -188,7 +188,7 @@ returns-in-Err-Memory-clause-adds g c =
     let s = g.S.Share.state c.args.share.now in
     let t = g.S.Share.state c.step.new.share in
     let stops = subst (λ stop. StopsLoading stop s t) c.in-Err-Memory.field-0-is c.in-Err-Memory.ensures.err in
-    load_leaves o.who c.args.running c.with_load-in-Err-Memory.result (Load c.args.loading) o c.leave-in-Err-Memory.result c.leave-in-Err-Memory.new.self s t (end.Stop why.Memory) c.changes-in-Err-Memory.result stops
+    load_leaves o.who c.args.running c.with_load-in-Err-Memory.result (Load c.args.loading) o c.leave-in-Err-Memory.result c.leave-in-Err-Memory.new.self s t (λ stored none. none) (end.Stop why.Memory) c.changes-in-Err-Memory.result stops
     c.with_load-in-Err-Memory.ensures c.leave-in-Err-Memory.ensures (λ so_far are. are)
 
 pub returns-in-Ok-Going-clause-falls : goal.returns-in-Ok-Going-clause-falls

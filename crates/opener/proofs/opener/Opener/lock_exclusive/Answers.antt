@@ -30,7 +30,7 @@ returns-in-Ok-Busy-clause-tied g c =
     let s = g.S.Share.state c.args.share.now in
     let t = g.S.Share.state c.try_lock.new.self in
     let tries = subst (λ tried. Tries Exclusive tried s t) c.in-Ok-Busy.field-0-is c.in-Ok-Busy.ensures.ok in
-    subst (λ (n : OpenerState). Tied n t) (sym c.blocked.ensures.1) (busy_tied c.args.self.now c.args.running LockExclusive Exclusive c.in-Ok-Busy.holder s t c.requires tt tries)
+    subst (λ (n : OpenerState). Tied n t) (sym c.blocked.ensures.1) (busy_tied c.args.self.now c.args.running LockExclusive Exclusive c.in-Ok-Busy.holder s t c.requires refl tries)
 
 pub returns-in-Err-clause-tied : goal.returns-in-Err-clause-tied
 returns-in-Err-clause-tied g c =
@@ -44,7 +44,7 @@ returns-in-Ok-Taken-clause-adds g c =
     let s = g.S.Share.state c.args.share.now in
     let t = g.S.Share.state c.try_lock.new.self in
     let tries = subst (λ tried. Tries Exclusive tried s t) c.in-Ok-Taken.field-0-is c.in-Ok-Taken.ensures.ok in
-    lock_goes o.who c.args.running c.with_lock-running.result LockExclusive o c.going.result c.going.new.self s t Exclusive c.noticing-stage.result tries.0
+    lock_goes o.who c.args.running c.with_lock-running.result LockExclusive o c.going.result c.going.new.self s t (λ stored none. none) Exclusive c.noticing-stage.result tries.0
     (c.requires.holds ∙ own_if o.holds c.args.running.taken c.requires.at.2.0 ∙ c.requires.at.2.1) c.with_lock-running.ensures c.going.ensures (λ so_far are. notices_nothing o.who c.with_lock-running.result o.image o.holds c.with_lock-running.result.taken c.noticing-stage.result so_far c.noticing-stage.ensures are)
 
 pub returns-in-Ok-Busy-clause-adds : goal.returns-in-Ok-Busy-clause-adds
@@ -58,7 +58,7 @@ returns-in-Ok-Busy-clause-adds g c =
 pub returns-in-Err-clause-adds : goal.returns-in-Err-clause-adds
 returns-in-Err-clause-adds g c =
     let o = c.args.self.now in
-    tried_adds o.who o c.args.running LockExclusive c.stopped.result c.stopped.new.self (g.S.Share.state c.args.share.now) (g.S.Share.state c.try_lock.new.self) Exclusive c.in-Err.stop (λ so_far are. are)
+    tried_adds o.who o c.args.running LockExclusive c.stopped.result c.stopped.new.self (g.S.Share.state c.args.share.now) (g.S.Share.state c.try_lock.new.self) (λ stored none. none) Exclusive c.in-Err.stop (λ so_far are. are)
     c.stopped.ensures c.in-Err.ensures.err
 
 pub returns-in-Ok-Taken-clause-falls : goal.returns-in-Ok-Taken-clause-falls

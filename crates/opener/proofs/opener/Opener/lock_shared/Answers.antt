@@ -29,7 +29,7 @@ returns-in-Ok-Busy-clause-tied g c =
     let s = g.S.Share.state c.args.share.now in
     let t = g.S.Share.state c.try_lock.new.self in
     let tries = subst (λ tried. Tries Shared tried s t) c.in-Ok-Busy.field-0-is c.in-Ok-Busy.ensures.ok in
-    subst (λ (n : OpenerState). Tied n t) (sym c.blocked.ensures.1) (busy_tied c.args.self.now c.args.running LockShared Shared c.in-Ok-Busy.holder s t c.requires tt tries)
+    subst (λ (n : OpenerState). Tied n t) (sym c.blocked.ensures.1) (busy_tied c.args.self.now c.args.running LockShared Shared c.in-Ok-Busy.holder s t c.requires refl tries)
 
 pub returns-in-Err-clause-tied : goal.returns-in-Err-clause-tied
 returns-in-Err-clause-tied g c =
@@ -43,7 +43,7 @@ returns-in-Ok-Taken-clause-adds g c =
     let s = g.S.Share.state c.args.share.now in
     let t = g.S.Share.state c.try_lock.new.self in
     let tries = subst (λ tried. Tries Shared tried s t) c.in-Ok-Taken.field-0-is c.in-Ok-Taken.ensures.ok in
-    lock_goes o.who c.args.running c.with_lock.result LockShared o c.going.result c.going.new.self s t Shared (Load c.full-loading.result) tries.0
+    lock_goes o.who c.args.running c.with_lock.result LockShared o c.going.result c.going.new.self s t (λ stored none. none) Shared (Load c.full-loading.result) tries.0
     (c.requires.holds ∙ own_if o.holds c.args.running.taken c.requires.at.2.0 ∙ c.requires.at.2.1) c.with_lock.ensures c.going.ensures (λ so_far are. are)
 
 pub returns-in-Ok-Busy-clause-adds : goal.returns-in-Ok-Busy-clause-adds
@@ -57,7 +57,7 @@ returns-in-Ok-Busy-clause-adds g c =
 pub returns-in-Err-clause-adds : goal.returns-in-Err-clause-adds
 returns-in-Err-clause-adds g c =
     let o = c.args.self.now in
-    tried_adds o.who o c.args.running LockShared c.stopped.result c.stopped.new.self (g.S.Share.state c.args.share.now) (g.S.Share.state c.try_lock.new.self) Shared c.in-Err.stop (λ so_far are. are)
+    tried_adds o.who o c.args.running LockShared c.stopped.result c.stopped.new.self (g.S.Share.state c.args.share.now) (g.S.Share.state c.try_lock.new.self) (λ stored none. none) Shared c.in-Err.stop (λ so_far are. are)
     c.stopped.ensures c.in-Err.ensures.err
 
 pub returns-in-Ok-Taken-clause-falls : goal.returns-in-Ok-Taken-clause-falls

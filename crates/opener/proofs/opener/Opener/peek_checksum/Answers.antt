@@ -68,7 +68,7 @@ returns-in-Ok-clause-adds g c =
     let o = c.args.self.now in
     let s = g.S.Share.state c.args.share.now in
     let t = g.S.Share.state c.peek_checksum.new.self in
-    load_goes o.who c.args.running c.with_load.result PeekChecksum o c.going.result c.going.new.self s t (PeekSequence c.in-Ok.peek) c.in-Ok.ensures.ok c.with_load.ensures c.going.ensures (λ so_far are. are)
+    load_goes o.who c.args.running c.with_load.result PeekChecksum o c.going.result c.going.new.self s t (λ stored none. none) (PeekSequence c.in-Ok.peek) c.in-Ok.ensures.ok c.with_load.ensures c.going.ensures (λ so_far are. are)
 
 pub returns-in-Err-clause-adds : goal.returns-in-Err-clause-adds
 returns-in-Err-clause-adds g c =

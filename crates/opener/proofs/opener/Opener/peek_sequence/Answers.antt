@@ -74,7 +74,7 @@ returns-then-is_current-clause-adds g c =
     let t = g.S.Share.state c.peek_sequence.new.self in
     let is : is_current o.image c.args.peek c.in-Ok.sequence ≡ true = sym c.if-is_current.ensures in
     let cur = current_is o.image c.args.peek c.in-Ok.sequence is in
-    load_ready o.who c.args.running c.with_load.result (PeekSequence c.args.peek) o c.ready.result c.ready.new.self s t c.args.peek.changes c.changes.result cur.i c.in-Ok.ensures.ok c.with_load.ensures
+    load_ready o.who c.args.running c.with_load.result (PeekSequence c.args.peek) o c.ready.result c.ready.new.self s t (λ stored none. none) c.args.peek.changes c.changes.result cur.i c.in-Ok.ensures.ok c.with_load.ensures
     c.requires.at.1 cur.kept c.ready.ensures (λ so_far are. are)
 
 pub returns-else-is_current-clause-adds : goal.returns-else-is_current-clause-adds
@@ -82,7 +82,7 @@ returns-else-is_current-clause-adds g c =
     let o = c.args.self.now in
     let s = g.S.Share.state c.args.share.now in
     let t = g.S.Share.state c.peek_sequence.new.self in
-    load_goes o.who c.args.running c.with_load-in-Ok.result (PeekSequence c.args.peek) o c.going.result c.going.new.self s t c.reading-stage.result c.in-Ok.ensures.ok c.with_load-in-Ok.ensures c.going.ensures
+    load_goes o.who c.args.running c.with_load-in-Ok.result (PeekSequence c.args.peek) o c.going.result c.going.new.self s t (λ stored none. none) c.reading-stage.result c.in-Ok.ensures.ok c.with_load-in-Ok.ensures c.going.ensures
     (λ so_far are. reads_nothing o.who c.with_load-in-Ok.result o.holds c.args.running.taken c.reading-stage.result so_far c.reading-stage.ensures are)
 
 pub returns-in-Err-clause-adds : goal.returns-in-Err-clause-adds

@@ -10,6 +10,7 @@ use Rattle.opener.proofs.Stopped.{stopped_tied}
 use Rattle.opener.proofs.Added.{adds_nothing, adds_unlock, stopped_adds}
 use Rattle.opener.proofs.Adding.{done_made, done_counts, none_more, releases_none}
 use Rattle.opener.proofs.Falling.{done_falls, stopped_falls}
+use Rattle.opener.proofs.Storing.{calm_stored}
 use Rattle.opener.proofs.opener.Opener.release.Goals as goal
 
 pub unlock-requires-clause-lawful : goal.unlock-requires-clause-lawful
@@ -42,7 +43,7 @@ returns-in-Ok-clause-adds g c =
     let t = g.S.Share.state c.unlock.new.self in
     let result = c.done-in-Ok.result in
     let new = c.done-in-Ok.new.self in
-    adds_unlock o.who c.args.running Release result new.work s t c.in-Ok.ensures.ok
+    adds_unlock o.who c.args.running Release result new.work s t c.in-Ok.ensures.ok (calm_stored Release result new.work (λ stored none. none))
     (λ so_far are. done_made o.who c.args.running c.args.running o result new 0 c.changes-in-Ok.result so_far c.done-in-Ok.ensures (releases_none o.who c.args.running so_far c.requires.at.1 are))
     (done_counts o.who c.args.running c.args.running o result new 0 c.changes-in-Ok.result 0 0 0 c.done-in-Ok.ensures (none_more c.args.running))
 
@@ -55,7 +56,7 @@ pub returns-then-self-gt1-clause-adds : goal.returns-then-self-gt1-clause-adds
 returns-then-self-gt1-clause-adds g c =
     let o = c.args.self.now in
     let s = g.S.Share.state c.args.share.now in
-    adds_nothing o.who c.args.running Release c.done.result c.done.new.self.work s
+    adds_nothing o.who c.args.running Release c.done.result c.done.new.self.work s (calm_stored Release c.done.result c.done.new.self.work (λ stored none. none))
     (λ so_far are. done_made o.who c.args.running c.args.running o c.done.result c.done.new.self _ c.changes.result so_far c.done.ensures (releases_none o.who c.args.running so_far c.requires.at.1 are))
     (done_counts o.who c.args.running c.args.running o c.done.result c.done.new.self _ c.changes.result 0 0 0 c.done.ensures (none_more c.args.running))
 

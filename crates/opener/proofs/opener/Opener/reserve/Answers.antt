@@ -13,12 +13,13 @@ use Rattle.opener.specs.declared.work.Stage.TheVariants.{Reserve, Store}
 use Rattle.opener.specs.declared.work.Work.TheVariants.{Runs}
 use Rattle.opener.proofs.EndClauses.{going_call, going_cause, going_answer, leaves_call, leaves_cause}
 use Rattle.opener.proofs.Leaves.{leaves_answer}
-use Rattle.opener.proofs.Reserved.{reserved_tied, unreserved_tied, unreserved_left, write_plain, counted_is, reserving_stops}
+use Rattle.opener.proofs.Reserved.{reserved_tied, unreserved_plan, unreserved_tied, unreserved_left, write_plain, counted_is, reserving_stops}
 use Rattle.opener.proofs.StopClauses.{same_call, reserved_makes, stopped_call, reserved_cause, stopped_answer}
 use Rattle.opener.proofs.Stopped.{stopped_tied}
 use Rattle.opener.proofs.Added.{adds_none, stopped_adds}
 use Rattle.opener.proofs.Adding.{going_made, going_counts, leaves_made, leaves_counts, none_more}
 use Rattle.opener.proofs.Falling.{going_falls, leaves_falls, reserved_shorter, stopped_falls, unreserved_shorter}
+use Rattle.opener.proofs.Storing.{calm_stored}
 use Rattle.opener.proofs.opener.Opener.reserve.Goals as goal
 
 pub returns-in-Ok-clause-tied : goal.returns-in-Ok-clause-tied
@@ -97,7 +98,9 @@ returns-in-JournalFull-clause-cause g c =
     let stops = subst (λ stop. StopsReserving c.events.result stop s t) c.in-JournalFull.is c.in-Err.ensures.err in
     let counted_all = c.events.ensures ∙ counted_is (events_in c.args.plan) c.requires.at.2.1.few in
     leaves_cause (Runs c.args.running (Reserve c.args.plan)) c.args.running (end.Stop why.JournalFull) c.changes-in-JournalFull.result c.args.self.now c.leave-in-JournalFull.result
-    c.leave-in-JournalFull.new.self s t refl (inr (subst (λ n. StopsReserving n share.JournalFull s t) counted_all stops)) c.leave-in-JournalFull.ensures
+    c.leave-in-JournalFull.new.self s t refl
+    (inr (subst (λ n. StopsReserving n share.JournalFull s t) counted_all stops, c.requires.owes, unreserved_plan c.args.self.now c.args.running c.args.plan s t c.requires stops.0))
+    c.leave-in-JournalFull.ensures
 
 pub returns-in-JournalFull-clause-answer : goal.returns-in-JournalFull-clause-answer
 returns-in-JournalFull-clause-answer g c =
@@ -124,9 +127,8 @@ pub returns-in_default-clause-cause : goal.returns-in_default-clause-cause
 returns-in_default-clause-cause g c =
     let s = g.S.Share.state c.args.share.now in
     let t = g.S.Share.state c.reserve.new.self in
-    let counted_all = c.events.ensures ∙ counted_is (events_in c.args.plan) c.requires.at.2.1.few in
     reserved_cause c.args.plan c.in-Err.stop c.args.self.now c.args.running c.stopped.result c.stopped.new.self s t c.stopped.ensures
-    (subst (λ n. StopsReserving n c.in-Err.stop s t) counted_all c.in-Err.ensures.err)
+    (reserving_stops c.events.result c.in-Err.stop s t c.in_default.not-Memory c.in_default.not-JournalFull c.in-Err.ensures.err)
 
 pub returns-in_default-clause-answer : goal.returns-in_default-clause-answer
 returns-in_default-clause-answer g c = stopped_answer c.in-Err.stop c.args.self.now c.args.running (Reserve c.args.plan) c.stopped.result c.stopped.new.self _ c.stopped.ensures
@@ -138,6 +140,7 @@ returns-in-Ok-clause-adds g c =
     let t = g.S.Share.state c.reserve.new.self in
     let running = c.args.running in
     adds_none o.who running (Reserve c.args.plan) c.going.result c.going.new.self.work s t (reserving c.events.result c.room.result s) c.in-Ok.ensures.ok.after refl refl refl
+    (calm_stored (Reserve c.args.plan) c.going.result c.going.new.self.work (λ stored none. none))
     (λ so_far are. going_made o.who running running o c.going.result c.going.new.self (Store c.args.plan) so_far c.going.ensures
     (subst (λ l. AreOfCall o.who running.call running.now (l ++ commits_in c.args.plan)) (sym are) c.requires.at.2.3))
     (going_counts o.who running running o c.going.result c.going.new.self (Store c.args.plan) 0 0 0 c.going.ensures (none_more running))
@@ -150,6 +153,7 @@ returns-in-Memory-clause-adds g c =
     let running = c.args.running in
     let stops = subst (λ stop. StopsReserving c.events.result stop s t) c.in-Memory.is c.in-Err.ensures.err in
     adds_none o.who running (Reserve c.args.plan) c.leave.result c.leave.new.self.work s t (unmoved s) stops.after refl refl refl
+    (calm_stored (Reserve c.args.plan) c.leave.result c.leave.new.self.work (λ stored none. none))
     (λ so_far are. leaves_made o.who running running o c.leave.result c.leave.new.self (end.Stop why.Memory) c.changes.result so_far (same_call running) c.leave.ensures are)
     (leaves_counts o.who running running o c.leave.result c.leave.new.self (end.Stop why.Memory) c.changes.result 0 0 0 c.leave.ensures (none_more running))
 
@@ -162,7 +166,7 @@ returns-in-JournalFull-clause-adds g c =
     let result = c.leave-in-JournalFull.result in
     let new = c.leave-in-JournalFull.new.self in
     let stops = subst (λ stop. StopsReserving c.events.result stop s t) c.in-JournalFull.is c.in-Err.ensures.err in
-    adds_none o.who running (Reserve c.args.plan) result new.work s t (unmoved s) stops.0.after refl refl refl
+    adds_none o.who running (Reserve c.args.plan) result new.work s t (unmoved s) stops.0.after refl refl refl (calm_stored (Reserve c.args.plan) result new.work (λ stored none. none))
     (λ so_far are. leaves_made o.who running running o result new (end.Stop why.JournalFull) c.changes-in-JournalFull.result so_far (same_call running) c.leave-in-JournalFull.ensures are)
     (leaves_counts o.who running running o result new (end.Stop why.JournalFull) c.changes-in-JournalFull.result 0 0 0 c.leave-in-JournalFull.ensures (none_more running))
 

@@ -54,14 +54,14 @@ returns-in-Ok-plan-clause-adds g c =
     let o = c.args.self.now in
     let s = g.S.Share.state c.args.share.now in
     let t = g.S.Share.state c.size.new.self in
-    load_goes o.who c.args.running c.with_load.result Size c.plan.new.self c.going.result c.going.new.self s t (Reserve c.in-Ok-plan.plan) c.in-Ok.ensures.ok c.with_load.ensures c.going.ensures (λ so_far are. are)
+    load_goes o.who c.args.running c.with_load.result Size c.plan.new.self c.going.result c.going.new.self s t (λ stored none. none) (Reserve c.in-Ok-plan.plan) c.in-Ok.ensures.ok c.with_load.ensures c.going.ensures (λ so_far are. are)
 
 pub returns-in-Err-plan-clause-adds : goal.returns-in-Err-plan-clause-adds
 returns-in-Err-plan-clause-adds g c =
     let o = c.args.self.now in
     let s = g.S.Share.state c.args.share.now in
     let t = g.S.Share.state c.size.new.self in
-    load_leaves o.who c.args.running c.with_load-in-Err-plan.result Size c.plan.new.self c.leave.result c.leave.new.self s t (end.Stop c.in-Err-plan.stop) c.changes.result c.in-Ok.ensures.ok
+    load_leaves o.who c.args.running c.with_load-in-Err-plan.result Size c.plan.new.self c.leave.result c.leave.new.self s t (λ stored none. none) (end.Stop c.in-Err-plan.stop) c.changes.result c.in-Ok.ensures.ok
     c.with_load-in-Err-plan.ensures c.leave.ensures (λ so_far are. are)
 
 pub returns-in-Err-clause-adds : goal.returns-in-Err-clause-adds

@@ -7,6 +7,7 @@ use Rattle.opener.proofs.Stopped.{stopped_tied}
 use Rattle.opener.proofs.Added.{adds_unlock, stopped_adds}
 use Rattle.opener.proofs.Adding.{finishes_made, finishes_counts, none_more}
 use Rattle.opener.proofs.Falling.{finishes_falls, stopped_falls}
+use Rattle.opener.proofs.Storing.{finishes_stored}
 use Rattle.opener.proofs.opener.Opener.unlock.Goals as goal
 
 pub unlock-requires-clause-lawful : goal.unlock-requires-clause-lawful
@@ -51,6 +52,7 @@ returns-in-Ok-clause-adds g c =
     let result = c.finish.result in
     let new = c.finish.new.self in
     adds_unlock o.who c.args.running (Unlock c.args.end) result new.work s t c.in-Ok.ensures.ok
+    (finishes_stored c.args.running o result new c.args.end c.changes.result c.finish.ensures)
     (λ so_far are. finishes_made o.who c.args.running c.args.running o result new c.args.end c.changes.result so_far c.finish.ensures are)
     (finishes_counts o.who c.args.running c.args.running o result new c.args.end c.changes.result 0 0 0 c.finish.ensures (none_more c.args.running))
 
