@@ -5,9 +5,10 @@ use Rattle.std.specs.Prelude.{None, filter}
 use Rattle.lock_rules.specs.Locks.{Locks, MayTake}
 use Rattle.lock_rules.specs.declared.table.LockKind.{LockKind}
 use Rattle.lock_rules.specs.declared.table.LockKind.TheVariants.{Shared, Exclusive}
-use Rattle.opener.specs.Adds.{is_store, locks_taken, raised, stores_in}
+use Rattle.opener.specs.Adds.{locks_taken, raised, stores_in}
 use Rattle.opener.specs.Counted.{counted}
 use Rattle.opener.proofs.Adding.{gives_lock, keeps_lock, takes_lock}
+use Rattle.region_words.specs.Answered.{is_store}
 use Rattle.region_words.specs.Lawful.{IsPossible, Lawful}
 use Rattle.region_words.specs.Local.{lock_after}
 use Rattle.region_words.specs.Past.{locks_after, locks_step, region_after}

@@ -18,7 +18,7 @@ use Rattle.opener.specs.declared.work.Work.{Work}
 use Rattle.opener.specs.declared.work.Work.TheVariants.{Idle, Ended, Runs}
 use Rattle.region_words.specs.Lawful.{Lawful}
 use Rattle.region_words.specs.Region.{Region, file_size}
-use Rattle.region_words.specs.Past.{changes_of, has_died, region_after}
+use Rattle.region_words.specs.Past.{AreSteps, changes_of, has_died, region_after}
 use Rattle.region_words.specs.Local.{Seated, seat_state, account_of}
 use Rattle.region_words.specs.declared.event.Event.{Event}
 use Rattle.script_lang.specs.declared.line.Line.TheVariants.{Begin, Step as StepLine}
@@ -28,7 +28,6 @@ use Rattle.mmkv_top.specs.State.{PlayerState}
 use Rattle.mmkv_top.specs.declared.halt.Halt.{Halt}
 use Rattle.mmkv_top.specs.declared.halt.Halt.TheVariants as halt
 use Rattle.mmkv_top.specs.Parts.{Part, past_of, outcomes_of, answers_in, listed, strategies, lives, holds_of, held_after, asked_of, Running, running, stepped, going_on}
-use Rattle.opener.specs.Quiet.{AreSteps}
 use Rattle.mmkv_top.specs.Played.{Stock, IsOutcomeOf, IsStepLine, IsTooFull, MetFullJournal, MetNoImage}
 use Rattle.mmkv_top.specs.Play.{CanTake}
 use Rattle.mmkv_top.proofs.Reasoning.{begin_found, begun_stopless, is_reasoned, quiet_reasoned, said_printed}

@@ -17,15 +17,14 @@ use Rattle.opener.specs.declared.work.Work.TheVariants.{Runs}
 use Rattle.region_words.specs.Apart.{Apart}
 use Rattle.region_words.specs.Local.{Seated, seat_state}
 use Rattle.region_words.specs.Outcome.{AtRest}
-use Rattle.region_words.specs.Past.{locks_after, region_after}
+use Rattle.region_words.specs.Past.{AreSteps, locks_after, region_after}
 use Rattle.region_words.specs.Region.{Region, shown}
 use Rattle.region_words.specs.Share.{lock_of}
 use Rattle.region_words.specs.declared.event.Event.{Event}
 use Rattle.region_words.proofs.Regions.{lawful_accepted}
-use Rattle.opener.specs.Quiet.{AreSteps}
 use Rattle.mmkv_top.specs.Player.{FoundSaw, SawNoImage, StopSaw}
 use Rattle.mmkv_top.proofs.NoPlaces.{at_stop}
-use Rattle.opener.proofs.WholeAtRest.{rests_free, whole_at_rest}
+use Rattle.region_words.proofs.WholeAtRest.{rests_free, whole_at_rest}
 
 -- what holds of the thing in an option, if any
 if_some : {A : Type 0} {P Q : A → Type 0} (o : Option A) → ((x : A) → o ≡ Some x → P x → Q x) → IfSome o P → IfSome o Q

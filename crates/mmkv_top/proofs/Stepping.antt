@@ -7,7 +7,7 @@ use Rattle.std.specs.Option.{option_map_or}
 use Rattle.change_log.specs.declared.call.Answer.{Answer}
 use Rattle.lock_rules.specs.Locks.{IsLeastAgainst}
 use Rattle.opener.specs.Calls.{holds_after}
-use Rattle.opener.specs.Adds.{AddsTo, Counts, IsRaised, IsRaisedIn, is_store, locks_taken, stores_in}
+use Rattle.opener.specs.Adds.{AddsTo, Counts, IsRaised, IsRaisedIn, locks_taken, stores_in}
 use Rattle.opener.specs.Bound.{Falls, steps_left}
 use Rattle.opener.specs.Settles.{IsSettledBy, Settles, answers_by}
 use Rattle.opener.specs.Opener.{Tied, MakesOne, KeepsWork, KeepsCall, HasCause, HasStopped, OnAnswer, IsAnswer, IsAnswerOf, RunsOn, HasReason, IsAt, IsSeen, Owes, WorkIs, is_ended, is_storing, lock_in, stop_found}
@@ -22,9 +22,10 @@ use Rattle.opener.specs.declared.work.Stage.{Stage}
 use Rattle.opener.specs.declared.work.Stage.TheVariants as stage
 use Rattle.opener.specs.declared.work.Work.{Work}
 use Rattle.opener.specs.declared.work.Work.TheVariants.{Idle, Ended, Runs}
+use Rattle.region_words.specs.Answered.{is_store}
 use Rattle.region_words.specs.Lawful.{Lawful}
 use Rattle.region_words.specs.Region.{Region, file_size}
-use Rattle.region_words.specs.Past.{changes_of, region_after, locks_after, has_died, is_death}
+use Rattle.region_words.specs.Past.{AreSteps, changes_of, region_after, locks_after, has_died, is_death}
 use Rattle.region_words.specs.Local.{Seated, seat_state, account_of, lock_after}
 use Rattle.region_words.specs.Share.{ShareState, made_by}
 use Rattle.region_words.specs.Told.{History, OnTold}
@@ -32,7 +33,6 @@ use Rattle.region_words.specs.declared.event.Event.{Event}
 use Rattle.region_words.specs.declared.event.What.{What}
 use Rattle.mmkv_top.specs.Parts.{Running, going_on, is_lock, locks_among, stores_among}
 use Rattle.mmkv_top.proofs.Counting.{count_goes_on, own_locks, stores_of_own}
-use Rattle.opener.specs.Quiet.{AreSteps}
 use Rattle.mmkv_top.specs.Played.{AsksFor, IsAnsweredBy, IsTooFull}
 use Rattle.region_words.proofs.ReadLaws.{changes_more}
 use Rattle.region_words.proofs.StaysFirm.{file_grows}

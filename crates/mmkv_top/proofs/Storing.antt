@@ -1,7 +1,7 @@
 -- What a call has stored, and that one that is stopped has stored nothing.
 use Rattle.std.proofs.Common.{◌≡◌, ℕ, ◌≤◌, List, [], ◌∷◌, ◌++◌, length, refl, sym, ap, ◌∙◌, arith, subst, length-append}
 use Rattle.std.specs.Prelude.{Option, Some, None, filter, option_and_then, option_map}
-use Rattle.opener.specs.Adds.{AddsTo, AreStored, changes_region, is_store, stores_in}
+use Rattle.opener.specs.Adds.{AddsTo, AreStored, changes_region, stores_in}
 use Rattle.opener.specs.State.{OpenerState}
 use Rattle.opener.specs.declared.calls.Step.{Step}
 use Rattle.opener.specs.declared.calls.Step.TheVariants as step
@@ -11,6 +11,7 @@ use Rattle.opener.specs.declared.work.End.TheVariants as end
 use Rattle.opener.specs.declared.work.Stage.TheVariants as stage
 use Rattle.opener.specs.declared.work.Work.{Work}
 use Rattle.opener.specs.declared.work.Work.TheVariants.{Ended, Idle, Runs}
+use Rattle.region_words.specs.Answered.{is_store}
 use Rattle.region_words.specs.Local.{Seated, seat_state}
 use Rattle.region_words.specs.Share.{made_by}
 use Rattle.region_words.specs.declared.event.Event.{Event}

@@ -2,8 +2,8 @@
 use Rattle.std.specs.Prelude.{ℕ, ◌+◌, Bool, true, false, filter, List, [], ◌∷◌, ◌++◌, Option, Some, None, length, not, option_map, option_and_then, nat_le, ◌==◌, ◌&&◌, if◌then◌else◌}
 use Rattle.change_log.specs.declared.call.Answer.{Answer}
 use Rattle.change_log.specs.declared.call.Call.{Call}
-use Rattle.opener.specs.Adds.{is_store}
 use Rattle.opener.specs.Calls.{holds_after}
+use Rattle.region_words.specs.Answered.{is_store}
 use Rattle.region_words.specs.Past.{has_died}
 use Rattle.region_words.specs.declared.event.Event.{Event}
 use Rattle.region_words.specs.declared.event.What.{What}

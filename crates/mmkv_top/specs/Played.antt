@@ -12,14 +12,13 @@ use Rattle.meta_record.specs.declared.shown.Shown.TheVariants.{Whole}
 use Rattle.opener.specs.Begins.{call_refusal}
 use Rattle.opener.specs.Counted.{counted}
 use Rattle.opener.specs.Opener.{image_at}
-use Rattle.opener.specs.Quiet.{AreSteps}
 use Rattle.opener.specs.Plans.{IsPlanOf, events_in, refusal_of}
 use Rattle.opener.specs.declared.calls.Stop.{Stop}
 use Rattle.opener.specs.declared.calls.Stop.TheVariants as stop
 use Rattle.opener.specs.declared.plan.Plan.{Plan}
 use Rattle.region_words.specs.Apart.{Apart}
 use Rattle.region_words.specs.Lawful.{map_after}
-use Rattle.region_words.specs.Past.{changes_of, locks_after, region_after}
+use Rattle.region_words.specs.Past.{AreSteps, changes_of, locks_after, region_after}
 use Rattle.region_words.specs.Region.{Region, IsAccepted, shown}
 use Rattle.region_words.specs.Rows.{standing}
 use Rattle.region_words.specs.Share.{lock_of, most_events, places_kept}

@@ -25,7 +25,7 @@ use Rattle.opener.specs.declared.work.Work.TheVariants.{Idle, Runs}
 use Rattle.meta_record.specs.declared.shown.Shown.TheVariants.{Whole}
 use Rattle.region_words.specs.Apart.{Apart}
 use Rattle.region_words.specs.Region.{Region, IsAccepted, file_size, shown}
-use Rattle.region_words.specs.Past.{changes_of, locks_after, region_after}
+use Rattle.region_words.specs.Past.{AreSteps, changes_of, locks_after, region_after}
 use Rattle.region_words.specs.Local.{Seated, account_of, no_account, seat_state}
 use Rattle.region_words.specs.declared.event.Event.{Event}
 use Rattle.region_words.specs.declared.event.What.{What}
@@ -42,7 +42,6 @@ use Rattle.mmkv_top.specs.Ending.{ending}
 use Rattle.mmkv_top.specs.declared.ending.Ending.{Ending}
 use Rattle.script_lang.specs.Texts.{line as text_line}
 use Rattle.mmkv_top.specs.Parts.{Part, lines_of, past_of, outcomes_of, answers_in, listed, strategies, holds_of, asked_of, locks_among, stores_among, Running, running, going_on}
-use Rattle.opener.specs.Quiet.{AreSteps}
 use Rattle.mmkv_top.specs.Played.{Stock, ArePlayed, AreReasoned, AreRoomy, MeetsFullJournal, MeetsNoImage, AsksFor, IsTooFull, IsAnsweredBy, WasRefused, reason_said}
 use Rattle.mmkv_top.specs.Play.{AreAnswered, AreInTime, IsWithin, AreLines, CanTake, IsFirstRefused, IsHalted, IsRefusedIn, not_yet}
 

@@ -26,6 +26,7 @@ use region_words::{
 };
 use script_lang::{Outcome, ScriptStop, changes_text, outcome_text, read_script, region_text};
 use std::alloc::Global;
+use std::mem;
 
 /// Plays a script from the input, for one opener at a copy of a store. The store has to show a whole image.
 pub(crate) fn play<D: Shelf, S: Source>(
@@ -101,7 +102,12 @@ fn play_region<S: Source>(
 {
     region.journal();
     match shown(region.data_bytes(), region.meta_bytes()) {
-        Ok(Shown::Whole(_)) => play_input(alloc, &mut Player::new(alloc, region), input, handlers),
+        Ok(Shown::Whole(_)) => {
+            let mut player = Player::new(alloc, region);
+            let ending = play_input(alloc, &mut player, input, handlers);
+            mem::drop(player);
+            ending
+        }
         Ok(_) => not_yet(alloc),
         Err(fault) => refused(alloc, fault),
     }

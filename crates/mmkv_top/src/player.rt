@@ -19,6 +19,7 @@ use region_words::{LocalRegion, LocalSeat, Share};
 use script_lang::{Line, Outcome, Reason};
 use std::alloc::Global;
 use std::marker::Model;
+use std::mem;
 
 // The number of the one opener.
 const OPENER: u32 = 1;
@@ -101,7 +102,11 @@ impl Player {
             return Err(Halt::Refused);
         };
         self.seat.admit(OPENER)?;
-        self.opener = Some(opener_at(self.alloc, &self.seat, handler));
+        // there was none; as it is dropped by a call, this function needn't prove the drop of an opener
+        mem::drop(
+            self.opener
+                .replace(opener_at(self.alloc, &self.seat, handler)),
+        );
         Ok(())
     }
 

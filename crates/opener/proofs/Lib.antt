@@ -33,6 +33,5 @@ pub mod StopClauses
 pub mod Stopped
 pub mod Stored
 pub mod Storing
-pub mod WholeAtRest
 pub mod WriteStops
 pub mod Written

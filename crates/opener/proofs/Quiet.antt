@@ -13,7 +13,7 @@ use Rattle.meta_record.specs.declared.shown.Damage.TheVariants.{Content}
 use Rattle.meta_record.specs.declared.shown.Shown.{Shown}
 use Rattle.meta_record.specs.declared.shown.Shown.TheVariants.{Whole, Header, Last, Damaged}
 use Rattle.region_words.specs.Region.{Region, IsAccepted, IsRegion, base, flag, header, if_it_has_a_map, map_in, map_shown, payload_of, record_of, shown, size_of}
-use Rattle.region_words.specs.Past.{locks_after, region_after}
+use Rattle.region_words.specs.Past.{AreSteps, locks_after, region_after}
 use Rattle.region_words.specs.Apart.{Apart}
 use Rattle.region_words.specs.Lawful.{Lawful}
 use Rattle.region_words.specs.Outcome.{AtRest}
@@ -25,9 +25,9 @@ use Rattle.region_words.proofs.Notices.{whole_history}
 use Rattle.region_words.proofs.Telling.{told_map}
 use Rattle.opener.specs.State.{OpenerState}
 use Rattle.opener.specs.Opener.{Knows, Tied, is_storing, lock_in}
-use Rattle.opener.specs.Quiet.{AreSteps, RestsQuietly, ShowsQuietly}
+use Rattle.opener.specs.Quiet.{RestsQuietly, ShowsQuietly}
 use Rattle.opener.specs.declared.work.Work.{Work}
-use Rattle.opener.proofs.WholeAtRest.{rests_free, rests_without_death, whole_at_rest}
+use Rattle.region_words.proofs.WholeAtRest.{rests_free, rests_without_death, whole_at_rest}
 
 -- the map of the image of this size
 abbrev map_at : Region → ℕ → Option Map

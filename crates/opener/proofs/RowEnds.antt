@@ -1,7 +1,6 @@
 -- What a row leaves once its last event is made: the image that it leads to, whole.
-use Rattle.std.proofs.Common.{◌≡◌, ℕ, ◌+◌, ◌/◌, ◌≤◌, true, List, [], ◌∷◌, ◌++◌, length, refl, sym, ◌∙◌, subst, ap, arith, append-nil}
-use Rattle.std.specs.Prelude.{Option, Some, None, IsTrue, ⊤, is_some, option_and_then, ◌==◌, if◌then◌else◌}
-use Rattle.crc_words.specs.Crc.{crc_from}
+use Rattle.std.proofs.Common.{◌≡◌, ℕ, ◌+◌, ◌≤◌, true, List, [], ◌∷◌, ◌++◌, refl, sym, ◌∙◌, subst, ap, arith, append-nil}
+use Rattle.std.specs.Prelude.{Option, Some, None, IsTrue, is_some, option_and_then}
 use Rattle.expiring_map.specs.Map.{Map}
 use Rattle.change_log.specs.Acts.{replay}
 use Rattle.meta_record.specs.declared.shown.Shown.TheVariants.{Whole}
@@ -9,107 +8,27 @@ use Rattle.region_words.specs.Region.{Region, IsRegion, IsAccepted, record_of, f
 use Rattle.region_words.specs.Past.{region_after, after_all, changes_of}
 use Rattle.region_words.specs.Apart.{Apart}
 use Rattle.region_words.specs.Answered.{is_store}
-use Rattle.region_words.specs.Rows.{Row, Append, Pack, Clear, Enable, Disable, Restore, Discard, Recover, SizeRepair, MayBegin, events_of, append_stores, write_back_stores, switch_stores, recover_stores, stores_from, store_data, store_meta, payload_stores, close_sizes, growth, next_sequence, confirmed_by_checksum, confirmed_by_header, item_of, mark_of, standing, size_after, payload_after}
 use Rattle.region_words.specs.Coming.{IsStoring}
-use Rattle.region_words.specs.Lawful.{Lawful, Phase, Between, Within, Reaches, MayComeNext, phase_with, map_after}
+use Rattle.region_words.specs.Lawful.{Lawful, Between, Reaches, map_after}
 use Rattle.region_words.specs.Local.{event_of}
 use Rattle.region_words.specs.Making.{Making}
 use Rattle.region_words.specs.Outcome.{AtRest}
-use Rattle.region_words.specs.Standings.{words_of, tail_bytes}
 use Rattle.region_words.specs.declared.standing.Standing.{Standing}
-use Rattle.region_words.specs.declared.event.Side.TheVariants.{Meta}
-use Rattle.region_words.specs.declared.event.Mark.{Mark}
 use Rattle.region_words.specs.declared.event.What.{What}
 use Rattle.region_words.specs.declared.event.What.TheVariants.{Store, Grow, Lock, Unlock, Died}
 use Rattle.region_words.specs.declared.event.Event.{Event}
-use Rattle.region_words.proofs.Kept.{Fit}
+use Rattle.region_words.proofs.LastStore.{no_last_growth}
 use Rattle.region_words.proofs.MainLaw.{main_law, whole_law}
 use Rattle.region_words.proofs.Notices.{kept_at_rest, whole_history}
-use Rattle.region_words.proofs.PhaseLaw.{phase_law}
-use Rattle.region_words.proofs.Safe.{Inside}
 use Rattle.region_words.proofs.Shows.{whole_shown}
-use Rattle.region_words.proofs.View.{View, view}
-use Rattle.region_words.proofs.Changes.{after}
 use Rattle.opener.specs.Opener.{IsShown, IsImage}
 use Rattle.opener.specs.Writes.{HasStanding, Leads, commits_of, image_after}
 
--- the last of these events is a store
-abbrev EndsIn : List What → Type 0
-EndsIn [] = ⊥
-EndsIn (what ∷ []) = IsTrue (is_store what)
-EndsIn (what ∷ next ∷ rest) = EndsIn (next ∷ rest)
-
-abbrev MayEndIn : Row → List What → View → Type 0
-MayEndIn row [] v = ⊤
-MayEndIn row (what ∷ rest) v = EndsIn (what ∷ rest)
-
-behind : (what : What) (events : List What) → EndsIn events → EndsIn (what ∷ events)
-behind what [] h = absurd h
-behind what (next ∷ rest) h = h
-
-joined : (front events : List What) → EndsIn events → EndsIn (front ++ events)
-joined [] events h = h
-joined (what ∷ front) events h = behind what (front ++ events) (joined front events h)
-
--- so it is of each row
-append_ends : (s : Standing) (item : List ℕ) (mark : Mark) → EndsIn (append_stores s item mark)
-append_ends s item mark =
-    let size = s.size + length item in
-    joined (stores_from (1 + s.size / 4) (words_of (tail_bytes s ++ item))) (store_data 0 size ∷ Store Meta 0 (crc_from s.checksum item) mark ∷ store_meta 7 size ∷ []) refl
-
-module _ (s : Standing) (size : Option ℕ) (new : List ℕ) (mark : Mark) where
-  write_back_ends : EndsIn (write_back_stores s size new mark)
-  write_back_ends =
-      joined (growth s size ++ next_sequence s ∷ (if s.version == 0 then store_meta 1 3 ∷ [] else []) ++ payload_stores new) (confirmed_by_checksum new mark) refl
-
-  switch_ends : (flags : ℕ) → EndsIn (switch_stores s size flags new mark)
-  switch_ends flags =
-      joined (growth s size ++ next_sequence s ∷ store_meta 1 4 ∷ close_sizes ++ payload_stores new) (store_meta 26 flags ∷ confirmed_by_header new mark) refl
-
-  recover_ends : EndsIn (recover_stores s size new mark)
-  recover_ends = joined (next_sequence s ∷ close_sizes ++ growth s size ++ payload_stores new) (confirmed_by_header new mark) refl
-
-row_ends_in : (r : Region) (m : Map) (who : ℕ) (row : Row) → EndsIn (events_of r m who row)
-unfolding events_of
-row_ends_in r m who (Append a) = append_ends (standing r) (item_of (flag r) a) (mark_of r who (Append a))
-row_ends_in r m who (Pack now need) = write_back_ends (standing r) (size_after r m (Pack now need)) (payload_after r m (Pack now need)) (mark_of r who (Pack now need))
-row_ends_in r m who Clear = write_back_ends (standing r) (size_after r m Clear) (payload_after r m Clear) (mark_of r who Clear)
-row_ends_in r m who (Enable now seconds) =
-    switch_ends (standing r) (size_after r m (Enable now seconds)) (payload_after r m (Enable now seconds)) (mark_of r who (Enable now seconds)) 1
-row_ends_in r m who (Disable now) = switch_ends (standing r) (size_after r m (Disable now)) (payload_after r m (Disable now)) (mark_of r who (Disable now)) 0
-row_ends_in r m who Restore = refl
-row_ends_in r m who Discard = refl
-row_ends_in r m who Recover = recover_ends (standing r) (size_after r m Recover) (payload_after r m Recover) (mark_of r who Recover)
-row_ends_in r m who SizeRepair = refl
-
-ends_begin : (r : Region) (m : Map) (who : ℕ) (room : Option ℕ) (row : Row) → Fit (view r) → MayBegin r m room row → MayEndIn row (events_of r m who row) (view r)
-ends_begin r m who room row fit may = go (events_of r m who row) (row_ends_in r m who row)
-  where
-    go : (events : List What) → EndsIn events → MayEndIn row events (view r)
-    go [] h = tt
-    go (what ∷ rest) h = h
-
-ends_go : (row : Row) (what : What) (rest : List What) (v : View) → Fit v → Inside v what → MayEndIn row (what ∷ rest) v → MayEndIn row rest (after v what)
-ends_go row what [] v fit inside h = tt
-ends_go row what (next ∷ rest) v fit inside h = h
-
-no_growth : (size : ℕ) → IsTrue (is_store (Grow size)) → ⊥
-no_growth size e = cc
-
 -- the last event of a row is a store
-pub last_is_store : (start : Region) (past : List Event) (who : ℕ) (what : What) (room : Option ℕ) → IsRegion start → IsAccepted start → Lawful start (event_of who what ∷ past) → IsStoring what →
+last_is_store : (start : Region) (past : List Event) (who : ℕ) (what : What) (room : Option ℕ) → IsRegion start → IsAccepted start → Lawful start (event_of who what ∷ past) → IsStoring what →
     Reaches start (event_of who what ∷ past) (Between room) → IsTrue (is_store what)
 last_is_store start past who (Store side word value mark) room region ok l is leads = refl
-last_is_store start past who (Grow size) room region ok l is (old, reached, (row, rest, come, new)) = by_rest rest come new
-  where
-    by_old : (old : Phase) → Reaches start past old → MayComeNext (region_after start past) (map_after start past) who old row (Grow size ∷ []) → ⊥
-    by_old (Between free) reached come = no_growth size (subst EndsIn (sym come.1) (row_ends_in (region_after start past) (map_after start past) who row))
-    by_old (Within under left) reached come =
-        no_growth size (subst (λ events. MayEndIn under events (view (region_after start past))) (sym come.1) (phase_law MayEndIn ends_begin ends_go start region ok past under left l.0 reached))
-
-    by_rest : (rest : List What) → MayComeNext (region_after start past) (map_after start past) who old row (Grow size ∷ rest) → Between room ≡ phase_with row rest → IsTrue (is_store (Grow size))
-    by_rest [] come new = absurd (by_old old reached come)
-    by_rest (next ∷ rest) come new = absurd cc
+last_is_store start past who (Grow size) room region ok l is (old, reached, leads) = absurd (no_last_growth start region ok who size past old room l.0 reached leads)
 last_is_store start past who (Lock kind) room region ok l is leads = absurd is
 last_is_store start past who Unlock room region ok l is leads = absurd is
 last_is_store start past who (Died torn) room region ok l is leads = absurd is

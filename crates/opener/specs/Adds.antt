@@ -3,6 +3,7 @@ use Rattle.std.specs.Prelude.{◌≡◌, ℕ, ◌+◌, ◌⊎◌, Bool, true, fa
 use Rattle.change_log.specs.Settled.{AreOfCall, AreBegun}
 use Rattle.change_log.specs.declared.change.Change.{Change}
 use Rattle.lock_rules.specs.declared.table.LockKind.{LockKind}
+use Rattle.region_words.specs.Answered.{is_store}
 use Rattle.region_words.specs.Outside.{one_more}
 use Rattle.region_words.specs.Share.{ShareState, Grows}
 use Rattle.region_words.specs.Told.{OnBoth}
@@ -38,10 +39,6 @@ AreMadeBy who running (step.Answered a) new made = AreOfCall who running.call ru
 AreMadeBy who running (step.Stopped Fault) new made = AreBegun who running.call running.now made
 AreMadeBy who running (step.Stopped why) new made = made ≡ []
 AreMadeBy who running _ new made = AreMade who new made
-
-abbrev pub is_store : What → Bool
-is_store (what.Store side word value mark) = true
-is_store _ = false
 
 -- a store or a growth
 abbrev pub changes_region : What → Bool

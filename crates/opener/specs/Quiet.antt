@@ -1,10 +1,9 @@
 -- A region that one opener alone uses.
 use Rattle.std.specs.Prelude.{◌≡◌, ◌≢◌, ℕ, false, List, [], Some}
-use Rattle.std.specs.List.{AllByRecursion}
 use Rattle.meta_record.specs.declared.shown.Damage.{Damage}
 use Rattle.meta_record.specs.declared.shown.Shown.TheVariants.{Whole, Damaged}
 use Rattle.region_words.specs.Region.{Region, IsAccepted, map_shown, shown}
-use Rattle.region_words.specs.Past.{changes_of, is_death, region_after}
+use Rattle.region_words.specs.Past.{AreSteps, changes_of, region_after}
 use Rattle.region_words.specs.Apart.{Apart}
 use Rattle.region_words.specs.Lawful.{map_after}
 use Rattle.region_words.specs.Told.{OnTold}
@@ -12,10 +11,6 @@ use Rattle.region_words.specs.Share.{ShareState}
 use Rattle.region_words.specs.declared.event.Event.{Event}
 use Rattle.opener.specs.Opener.{is_storing}
 use Rattle.opener.specs.declared.work.Work.{Work}
-
--- events of one opener, none of them its death
-abbrev pub AreSteps : ℕ → List Event → Type 0
-AreSteps who made = AllByRecursion (λ e. (e.who ≡ who) × (is_death e.what ≡ false)) made
 
 -- The region shows the map of the history, where the start wasn't damaged or something was changed; and a whole image where the start
 -- shows one.

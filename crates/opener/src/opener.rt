@@ -86,10 +86,19 @@ impl Opener {
         Ok(())
     }
 
-    fn run(&mut self, running: Running, stage: Stage)
+    // This call runs, and is at this stage.
+    pub(crate) fn run(&mut self, running: Running, stage: Stage)
         ensures { self.new ≡ record self.old { work = Work.Runs running stage } }
     {
-        self.work = Work::Runs { running, stage };
+        self.set_work(Work::Runs { running, stage });
+    }
+
+    // The opener is at this work from now on. What it was at is dropped by a call: each function with an assignment in its place
+    // would have to prove that drop, variant by variant.
+    pub(crate) fn set_work(&mut self, work: Work)
+        ensures { self.new ≡ record self.old { work = work } }
+    {
+        mem::drop(mem::replace(&mut self.work, work));
     }
 
     fn refusal(&self, call: &Call) -> Option<Refused>
@@ -130,7 +139,7 @@ impl Opener {
         match mem::replace(&mut self.work, Work::Idle) {
             Work::Idle => Step::Idle,
             Work::Ended => {
-                self.work = Work::Ended;
+                self.set_work(Work::Ended);
                 Step::Idle
             }
             Work::Runs { running, stage } => self.go(share, running, stage),

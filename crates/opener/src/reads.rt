@@ -188,7 +188,7 @@ impl Opener {
     pub(crate) fn going(&mut self, running: Running, stage: Stage) -> Step
         ensures { GoesOn running stage self.old result self.new }
     {
-        self.work = Work::Runs { running, stage };
+        self.run(running, stage);
         Step::Going
     }
 
@@ -196,7 +196,7 @@ impl Opener {
     pub(crate) fn blocked(&mut self, running: Running, stage: Stage, holder: u32) -> Step
         ensures { Waits running stage holder self.old result self.new }
     {
-        self.work = Work::Runs { running, stage };
+        self.run(running, stage);
         Step::Blocked(holder)
     }
 
@@ -204,7 +204,7 @@ impl Opener {
     pub(crate) fn stopped(&mut self, stop: ShareStop, running: Running, stage: Stage) -> Step
         ensures { AfterStop stop self.old running stage result self.new }
     {
-        self.work = Work::Runs { running, stage };
+        self.run(running, stage);
         match stop {
             ShareStop::Turn => Step::Again,
             ShareStop::Failed => self.die(),
@@ -222,7 +222,7 @@ impl Opener {
         self.handler = None;
         self.holds = 0;
         self.image = None;
-        self.work = Work::Ended;
+        self.set_work(Work::Ended);
         Step::Stopped(Stop::Fault)
     }
 
@@ -232,7 +232,7 @@ impl Opener {
         ensures kept { self.new ≡ record self.old { image = None; work = Work.Idle } }
     {
         self.image = None;
-        self.work = Work::Idle;
+        self.set_work(Work::Idle);
         Step::Stopped(stop)
     }
 
@@ -242,7 +242,7 @@ impl Opener {
     {
         match end {
             End::Answer { place, reply } => {
-                self.work = Work::Idle;
+                self.set_work(Work::Idle);
                 Step::Answered(answer_of(self.who, running, place, ended, reply))
             }
             End::Stop(stop) => self.give_up(stop),
@@ -254,7 +254,7 @@ impl Opener {
         ensures { IsDone running holds place self.old result self.new }
     {
         self.holds = holds;
-        self.work = Work::Idle;
+        self.set_work(Work::Idle);
         Step::Answered(answer_of(self.who, running, place, place, Reply::Done))
     }
 

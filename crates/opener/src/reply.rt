@@ -7,7 +7,12 @@ use expiring_map::{Bytes, ExpiringMap, Memory};
 use std::alloc::Global;
 
 /// The reply to a call that finds this map at a moment.
-pub fn reply_in(alloc: Global, map: &ExpiringMap, now: u32, call: &Call) -> Result<Reply, Memory>
+pub(crate) fn reply_in(
+    alloc: Global,
+    map: &ExpiringMap,
+    now: u32,
+    call: &Call,
+) -> Result<Reply, Memory>
     ensures { IfOk result (λ reply. reply ≡ reply_in map.now now call.now) }
 {
     match call {

@@ -13,12 +13,13 @@ use handlers::{Handler, Steady, Strategy};
 use meta_record::Shown;
 use region_words::{LocalRegion, LocalSeat, Share, shown};
 use std::alloc::Global;
+use std::mem;
 use std::test::Fail;
 
 // A store with the pair k, abc: its data and its meta file. The checksums are those of zlib.
-pub const BODY: [u8; 15] = *b"\x0b\0\0\0\xff\xff\xff\x07\x01k\x04\x03abc";
+pub(crate) const BODY: [u8; 15] = *b"\x0b\0\0\0\xff\xff\xff\x07\x01k\x04\x03abc";
 
-pub const META: [u8; 40] =
+pub(crate) const META: [u8; 40] =
     *b"\xd3\x95\x65\x3a\x03\0\0\0\x01\0\0\0\0\0\0\0\0\0\0\0\0\0\0\0\0\0\0\0\x0b\0\0\0\x04\0\0\0\xd1\x85\x99\x4c";
 
 // A seat at a region of these files. Its calls of the listed numbers fail.
@@ -87,7 +88,7 @@ fn sizes(seat: &LocalSeat) -> Option<(u32, usize)> {
 
 // How three calls of one opener end, one after the other, and what stands then. One that was not begun has no end.
 #[derive(Drop)]
-pub struct Ends {
+pub(crate) struct Ends {
     pub first: Option<Step>,
     pub second: Option<Step>,
     pub third: Option<Step>,
@@ -96,7 +97,7 @@ pub struct Ends {
 }
 
 // Three calls of a new opener, over a seat at these files whose calls of the listed numbers fail.
-pub fn ends_of(
+pub(crate) fn ends_of(
     alloc: Global,
     body: &[u8],
     meta: &[u8],
@@ -114,6 +115,7 @@ pub fn ends_of(
     let first = ask(&mut opener, &mut seat, first, 100);
     let second = ask(&mut opener, &mut seat, second, 100);
     let third = ask(&mut opener, &mut seat, third, 100);
+    mem::drop(opener);
     Some(Ends {
         first,
         second,
@@ -123,8 +125,24 @@ pub fn ends_of(
     })
 }
 
+// Why two calls, which a new opener is to begin one after the other, are not begun.
+fn refusals(alloc: Global, first: Call, second: Call) -> Option<(Option<Refused>, Option<Refused>)>
+    requires first { IsBuilt first }
+    requires second { IsBuilt second }
+{
+    let seat = seat_at(alloc, &BODY, &META, &[])?;
+    let mut opener = opener_of(alloc, &seat)?;
+    let first = opener.begin(&seat, first, 100).err();
+    let second = opener.begin(&seat, second, 100).err();
+    mem::drop(opener);
+    Some((
+        first.map(|refused| refused.why),
+        second.map(|refused| refused.why),
+    ))
+}
+
 // Why a new opener's first call is stopped.
-pub fn first_stop(
+pub(crate) fn first_stop(
     alloc: Global,
     body: &[u8],
     meta: &[u8],
@@ -137,7 +155,7 @@ pub fn first_stop(
     stopped(&ends.first)
 }
 
-pub fn stopped(step: &Option<Step>) -> Option<Stop> {
+pub(crate) fn stopped(step: &Option<Step>) -> Option<Stop> {
     match step {
         Some(Step::Stopped(stop)) => Some(*stop),
         _ => None,
@@ -145,7 +163,7 @@ pub fn stopped(step: &Option<Step>) -> Option<Stop> {
 }
 
 // The changes before the answer, and the loads, stores and locks that it took.
-pub fn counts(step: &Option<Step>) -> Option<(u32, u32, u32, u32)> {
+pub(crate) fn counts(step: &Option<Step>) -> Option<(u32, u32, u32, u32)> {
     match step {
         Some(Step::Answered(answer)) => {
             Some((answer.place, answer.loads, answer.stores, answer.locks))
@@ -154,7 +172,7 @@ pub fn counts(step: &Option<Step>) -> Option<(u32, u32, u32, u32)> {
     }
 }
 
-pub fn is_value(step: &Option<Step>, want: &[u8]) -> bool {
+pub(crate) fn is_value(step: &Option<Step>, want: &[u8]) -> bool {
     match step {
         Some(Step::Answered(answer)) => match &answer.reply {
             Reply::Value(bytes) => bytes.as_slice() == want,
@@ -187,7 +205,7 @@ fn is_keys(step: &Option<Step>, want: &[u8]) -> bool {
     }
 }
 
-pub fn get(alloc: Global) -> Result<Call, Memory>
+pub(crate) fn get(alloc: Global) -> Result<Call, Memory>
     ensures { IfOk result IsBuilt }
 {
     Ok(Call::Get {
@@ -291,25 +309,14 @@ fn a_region_that_shows_no_whole_image_stops_the_call(rt: HostRuntime) {
 #[test]
 fn a_call_with_an_empty_key_is_not_begun(rt: HostRuntime) {
     let alloc = rt.alloc();
-    let seat = seat_at(alloc, &BODY, &META, &[]).expect(&rt, "ample memory");
-    let mut opener = opener_of(alloc, &seat).expect(&rt, "ample memory");
     let key = Bytes::of_vec(Vec::new(alloc));
-    let refused = opener.begin(&seat, Call::Get { key }, 100);
-    assert_eq!(rt;
-        refused.err().map(|refused| refused.why),
-        Some(Refused::EmptyKey)
-    );
+    let refused = refusals(alloc, Call::Get { key }, Call::Count).expect(&rt, "ample memory");
+    assert_eq!(rt; refused, (Some(Refused::EmptyKey), None));
 }
 
 #[test]
 fn a_second_call_is_not_begun_while_one_runs(rt: HostRuntime) {
     let alloc = rt.alloc();
-    let seat = seat_at(alloc, &BODY, &META, &[]).expect(&rt, "ample memory");
-    let mut opener = opener_of(alloc, &seat).expect(&rt, "ample memory");
-    assert_eq!(rt; opener.begin(&seat, Call::Count, 100).is_ok(), true);
-    let second = opener.begin(&seat, Call::Count, 100);
-    assert_eq!(rt;
-        second.err().map(|refused| refused.why),
-        Some(Refused::CallRunning)
-    );
+    let refused = refusals(alloc, Call::Count, Call::Count).expect(&rt, "ample memory");
+    assert_eq!(rt; refused, (None, Some(Refused::CallRunning)));
 }

@@ -1,5 +1,5 @@
 -- A past lists the events so far, the latest first.
-use Rattle.std.specs.Prelude.{◌≢◌, ℕ, Bool, true, false, List, [], ◌∷◌, ◌++◌, Some, ◌||◌, ◌&&◌, ◌==◌}
+use Rattle.std.specs.Prelude.{◌≡◌, ◌≢◌, ℕ, Bool, true, false, List, [], ◌∷◌, ◌++◌, Some, ◌||◌, ◌&&◌, ◌==◌}
 use Rattle.std.specs.List.{AllByRecursion}
 use Rattle.lock_rules.specs.Locks.{Locks, unlocked, with_lock, without_holder}
 use Rattle.meta_record.specs.Words.{with_word, grown_to}
@@ -71,3 +71,7 @@ has_died (e ∷ past) who = ((e.who == who) && is_death e.what) || has_died past
 -- none of these events is of this opener
 abbrev pub NoneOf : ℕ → List Event → Type 0
 NoneOf who later = AllByRecursion (λ e. e.who ≢ who) later
+
+-- all of them are of this opener, and none is its death
+abbrev pub AreSteps : ℕ → List Event → Type 0
+AreSteps who made = AllByRecursion (λ e. (e.who ≡ who) × (is_death e.what ≡ false)) made

@@ -28,7 +28,7 @@ returns-clause-taken g c =
     (ap (λ (s : Seated). s.region.past) c.in_ok-admit.ensures.ok ∙ ap (λ (x : PlayerState). x.seat.region.past) c.self.view_is)
     (ap (λ (s : Seated). s.region.failing.listed) c.in_ok-admit.ensures.ok ∙ ap (λ (x : PlayerState). x.seat.region.failing.listed) c.self.view_is)
     (first_in c.self.inside.seat c.admit.new.self (ap (λ (x : PlayerState). x.seat.region.accounts) c.self.view_is ∙ fresh_accounts c.args.self.now none c.requires.ready) c.in_ok-admit.ensures.ok)
-    refl (ap (λ (x : PlayerState). x.outcomes) c.self.view_is) c.opener_at.ensures.tied c.opener_at.ensures.new
+    c.replace.ensures.after (ap (λ (x : PlayerState). x.outcomes) c.self.view_is) c.opener_at.ensures.tied c.opener_at.ensures.new
     (ap (λ (s : Seated). s.who) c.in_ok-admit.ensures.ok ∙ ap (λ (x : PlayerState). x.seat.who) c.self.view_is ∙ c.requires.ready.0) at
 
 pub returns-in_err-admit-clause-taken : goal.returns-in_err-admit-clause-taken

@@ -1,5 +1,7 @@
-use Rattle.std.proofs.Common.{sym, ap, ◌∙◌}
+use Rattle.std.proofs.Common.{sym, ap, ◌∙◌, subst}
+use Rattle.opener.specs.State.{OpenerState}
 use Rattle.opener.specs.Opener.{is_storing}
+use Rattle.opener.specs.Quiet.{ShowsQuietly}
 use Rattle.opener.specs.declared.work.Work.TheVariants.{Ended}
 use Rattle.opener.proofs.Quiet.{idle_quietly, shows_quietly}
 use Rattle.opener.proofs.Settles.{step_settles}
@@ -20,4 +22,5 @@ returns-in-Idle-clause-quiet g c =
 
 pub returns-in-Ended-clause-quiet : goal.returns-in-Ended-clause-quiet
 returns-in-Ended-clause-quiet g c =
-    idle_quietly _ c.args.self.now Ended (g.S.Share.state c.args.share.now) c.self.view_is (ap is_storing (sym c.replace.ensures.value ∙ c.in-Ended.is)) c.requires
+    subst (λ (x : OpenerState). ShowsQuietly x.who x.work (g.S.Share.state c.args.share.now)) (sym c.set_work.ensures)
+    (idle_quietly _ c.args.self.now Ended (g.S.Share.state c.args.share.now) c.self.view_is (ap is_storing (sym c.replace.ensures.value ∙ c.in-Ended.is)) c.requires)
