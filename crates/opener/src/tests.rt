@@ -86,14 +86,19 @@ fn sizes(seat: &LocalSeat) -> Option<(u32, usize)> {
     }
 }
 
-// How three calls of one opener end, one after the other, and what stands then. One that was not begun has no end.
+// How the calls of one opener end, one after the other, and what stands then. One that was not begun has no end.
 #[derive(Drop)]
 pub(crate) struct Ends {
-    pub first: Option<Step>,
-    pub second: Option<Step>,
-    pub third: Option<Step>,
+    steps: Vec<Option<Step>>,
     pub sizes: Option<(u32, usize)>,
     pub events: usize,
+}
+
+impl Ends {
+    // The end of the call of this number, from 0.
+    pub(crate) fn of(&self, number: usize) -> Option<&Step> {
+        self.steps.get(number)?.as_ref()
+    }
 }
 
 // Three calls of a new opener, over a seat at these files whose calls of the listed numbers fail.
@@ -117,9 +122,7 @@ pub(crate) fn ends_of(
     let third = ask(&mut opener, &mut seat, third, 100);
     mem::drop(opener);
     Some(Ends {
-        first,
-        second,
-        third,
+        steps: Vec::from_array(alloc, [first, second, third]).ok()?,
         sizes: sizes(&seat),
         events: seat.region().journal().len(),
     })
@@ -152,10 +155,10 @@ pub(crate) fn first_stop(
     requires { IsBuilt call }
 {
     let ends = ends_of(alloc, body, meta, fails, call, Call::Sync, Call::Sync)?;
-    stopped(&ends.first)
+    stopped(ends.of(0))
 }
 
-pub(crate) fn stopped(step: &Option<Step>) -> Option<Stop> {
+pub(crate) fn stopped(step: Option<&Step>) -> Option<Stop> {
     match step {
         Some(Step::Stopped(stop)) => Some(*stop),
         _ => None,
@@ -163,7 +166,7 @@ pub(crate) fn stopped(step: &Option<Step>) -> Option<Stop> {
 }
 
 // The changes before the answer, and the loads, stores and locks that it took.
-pub(crate) fn counts(step: &Option<Step>) -> Option<(u32, u32, u32, u32)> {
+pub(crate) fn counts(step: Option<&Step>) -> Option<(u32, u32, u32, u32)> {
     match step {
         Some(Step::Answered(answer)) => {
             Some((answer.place, answer.loads, answer.stores, answer.locks))
@@ -172,7 +175,7 @@ pub(crate) fn counts(step: &Option<Step>) -> Option<(u32, u32, u32, u32)> {
     }
 }
 
-pub(crate) fn is_value(step: &Option<Step>, want: &[u8]) -> bool {
+pub(crate) fn is_value(step: Option<&Step>, want: &[u8]) -> bool {
     match step {
         Some(Step::Answered(answer)) => match &answer.reply {
             Reply::Value(bytes) => bytes.as_slice() == want,
@@ -182,7 +185,7 @@ pub(crate) fn is_value(step: &Option<Step>, want: &[u8]) -> bool {
     }
 }
 
-fn is_count(step: &Option<Step>, want: usize) -> bool {
+fn is_count(step: Option<&Step>, want: usize) -> bool {
     match step {
         Some(Step::Answered(answer)) => match &answer.reply {
             Reply::Count(count) => *count == want,
@@ -192,7 +195,7 @@ fn is_count(step: &Option<Step>, want: usize) -> bool {
     }
 }
 
-fn is_keys(step: &Option<Step>, want: &[u8]) -> bool {
+fn is_keys(step: Option<&Step>, want: &[u8]) -> bool {
     match step {
         Some(Step::Answered(answer)) => match &answer.reply {
             Reply::Keys(keys) => match keys.as_slice() {
@@ -226,11 +229,11 @@ fn a_second_read_looks_at_two_words_and_takes_no_lock(rt: HostRuntime) -> Result
         Call::Sync,
     )
     .expect(&rt, "ample memory");
-    assert_eq!(rt; is_value(&ends.first, b"\x03abc"), true);
-    assert_eq!(rt; counts(&ends.first), Some((0, 13, 0, 1)));
-    assert_eq!(rt; is_value(&ends.second, b"\x03abc"), true);
-    assert_eq!(rt; counts(&ends.second), Some((0, 2, 0, 0)));
-    assert_eq!(rt; counts(&ends.third), Some((0, 2, 0, 0)));
+    assert_eq!(rt; is_value(ends.of(0), b"\x03abc"), true);
+    assert_eq!(rt; counts(ends.of(0)), Some((0, 13, 0, 1)));
+    assert_eq!(rt; is_value(ends.of(1), b"\x03abc"), true);
+    assert_eq!(rt; counts(ends.of(1)), Some((0, 2, 0, 0)));
+    assert_eq!(rt; counts(ends.of(2)), Some((0, 2, 0, 0)));
     Ok(())
 }
 
@@ -247,11 +250,11 @@ fn under_a_hold_nothing_is_locked_again(rt: HostRuntime) {
         Call::Count,
     )
     .expect(&rt, "ample memory");
-    assert_eq!(rt; counts(&ends.first), Some((0, 0, 0, 1)));
-    assert_eq!(rt; is_keys(&ends.second, b"k"), true);
-    assert_eq!(rt; counts(&ends.second), Some((0, 13, 0, 0)));
-    assert_eq!(rt; is_count(&ends.third, 1), true);
-    assert_eq!(rt; counts(&ends.third), Some((0, 2, 0, 0)));
+    assert_eq!(rt; counts(ends.of(0)), Some((0, 0, 0, 1)));
+    assert_eq!(rt; is_keys(ends.of(1), b"k"), true);
+    assert_eq!(rt; counts(ends.of(1)), Some((0, 13, 0, 0)));
+    assert_eq!(rt; is_count(ends.of(2), 1), true);
+    assert_eq!(rt; counts(ends.of(2)), Some((0, 2, 0, 0)));
 }
 
 #[test]
@@ -267,8 +270,8 @@ fn the_last_release_gives_the_lock_up(rt: HostRuntime) {
         Call::Release,
     )
     .expect(&rt, "ample memory");
-    assert_eq!(rt; counts(&twice.second), Some((0, 0, 0, 0)));
-    assert_eq!(rt; counts(&twice.third), Some((0, 0, 0, 0)));
+    assert_eq!(rt; counts(twice.of(1)), Some((0, 0, 0, 0)));
+    assert_eq!(rt; counts(twice.of(2)), Some((0, 0, 0, 0)));
     assert_eq!(rt; twice.events, 1);
     let once = ends_of(
         alloc,
@@ -280,8 +283,8 @@ fn the_last_release_gives_the_lock_up(rt: HostRuntime) {
         Call::Release,
     )
     .expect(&rt, "ample memory");
-    assert_eq!(rt; counts(&once.second), Some((0, 0, 0, 0)));
-    assert_eq!(rt; counts(&once.third), None);
+    assert_eq!(rt; counts(once.of(1)), Some((0, 0, 0, 0)));
+    assert_eq!(rt; counts(once.of(2)), None);
     assert_eq!(rt; once.events, 2);
 }
 

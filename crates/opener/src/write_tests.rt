@@ -42,7 +42,7 @@ fn remove(alloc: Global) -> Result<Call, Memory>
     })
 }
 
-fn is_none(step: &Option<Step>) -> bool {
+fn is_none(step: Option<&Step>) -> bool {
     match step {
         Some(Step::Answered(answer)) => matches!(answer.reply, Reply::None),
         _ => false,
@@ -57,9 +57,9 @@ fn a_first_put_writes_the_pairs_anew_and_appends(rt: HostRuntime) -> Result<(), 
         &rt,
         "ample memory",
     );
-    assert_eq!(rt; counts(&ends.first), Some((1, 11, 13, 1)));
-    assert_eq!(rt; is_value(&ends.second, b"\x03abc"), true);
-    assert_eq!(rt; counts(&ends.second), Some((2, 2, 0, 0)));
+    assert_eq!(rt; counts(ends.of(0)), Some((1, 11, 13, 1)));
+    assert_eq!(rt; is_value(ends.of(1), b"\x03abc"), true);
+    assert_eq!(rt; counts(ends.of(1)), Some((2, 2, 0, 0)));
     assert_eq!(rt; ends.sizes, Some((11, 4096)));
     assert_eq!(rt; ends.events, 15);
     Ok(())
@@ -80,7 +80,7 @@ fn an_item_that_fits_is_appended(rt: HostRuntime) -> Result<(), Fail> {
         Call::Sync,
     )
     .expect(&rt, "ample memory");
-    assert_eq!(rt; counts(&ends.first), Some((0, 1013, 24, 1)));
+    assert_eq!(rt; counts(ends.of(0)), Some((0, 1013, 24, 1)));
     assert_eq!(rt; ends.sizes, Some((4092, 4096)));
     Ok(())
 }
@@ -100,7 +100,7 @@ fn an_item_of_a_byte_more_is_written_behind_the_pairs_anew(rt: HostRuntime) -> R
         Call::Sync,
     )
     .expect(&rt, "ample memory");
-    assert_eq!(rt; counts(&ends.first), Some((1, 1013, 1033, 1)));
+    assert_eq!(rt; counts(ends.of(0)), Some((1, 1013, 1033, 1)));
     assert_eq!(rt; ends.sizes, Some((4093, 65536)));
     Ok(())
 }
@@ -120,9 +120,9 @@ fn at_the_last_sequence_nothing_is_written_anew(rt: HostRuntime) -> Result<(), F
         Call::Sync,
     )
     .expect(&rt, "ample memory");
-    assert_eq!(rt; stopped(&ends.first), Some(Stop::SequenceEnd));
-    assert_eq!(rt; is_none(&ends.second), true);
-    assert_eq!(rt; counts(&ends.second), Some((0, 1012, 0, 1)));
+    assert_eq!(rt; stopped(ends.of(0)), Some(Stop::SequenceEnd));
+    assert_eq!(rt; is_none(ends.of(1)), true);
+    assert_eq!(rt; counts(ends.of(1)), Some((0, 1012, 0, 1)));
     assert_eq!(rt; ends.events, 4);
     Ok(())
 }
@@ -140,8 +140,8 @@ fn a_remove_is_a_change_where_the_key_is_absent_too(rt: HostRuntime) -> Result<(
         Call::Sync,
     )
     .expect(&rt, "ample memory");
-    assert_eq!(rt; counts(&ends.first), Some((0, 14, 5, 1)));
-    assert_eq!(rt; counts(&ends.second), Some((1, 3, 5, 1)));
+    assert_eq!(rt; counts(ends.of(0)), Some((0, 14, 5, 1)));
+    assert_eq!(rt; counts(ends.of(1)), Some((1, 3, 5, 1)));
     assert_eq!(rt; ends.sizes, Some((17, 4096)));
     Ok(())
 }
@@ -159,8 +159,8 @@ fn a_clear_leaves_no_pair(rt: HostRuntime) -> Result<(), Fail> {
         Call::Sync,
     )
     .expect(&rt, "ample memory");
-    assert_eq!(rt; counts(&ends.first), Some((0, 14, 7, 1)));
-    assert_eq!(rt; is_none(&ends.second), true);
+    assert_eq!(rt; counts(ends.of(0)), Some((0, 14, 7, 1)));
+    assert_eq!(rt; is_none(ends.of(1)), true);
     assert_eq!(rt; ends.sizes, Some((4, 4096)));
     Ok(())
 }
@@ -173,8 +173,8 @@ fn a_put_under_a_hold_takes_no_lock(rt: HostRuntime) -> Result<(), Fail> {
         &rt,
         "ample memory",
     );
-    assert_eq!(rt; counts(&ends.first), Some((0, 0, 0, 1)));
-    assert_eq!(rt; counts(&ends.second), Some((0, 14, 5, 0)));
+    assert_eq!(rt; counts(ends.of(0)), Some((0, 0, 0, 1)));
+    assert_eq!(rt; counts(ends.of(1)), Some((0, 14, 5, 0)));
     assert_eq!(rt; ends.events, 6);
     Ok(())
 }
