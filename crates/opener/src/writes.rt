@@ -15,6 +15,7 @@ use expiring_map::ExpiringMap;
 use loader::Image;
 use lock_rules::{LockKind, Tried};
 use region_words::{Share, ShareStop, Standing, Stored};
+use std::mem;
 use write_back::Rewriting;
 
 impl Opener {
@@ -72,8 +73,12 @@ impl Opener {
         match share.reserve(plan.events(), plan.room()) {
             Ok(()) => self.going(running, Stage::Store(plan)),
             Err(stop) => match stop {
-                ShareStop::Memory => self.leave(running, End::Stop(Stop::Memory), share.changes()),
+                ShareStop::Memory => {
+                    mem::drop(plan);
+                    self.leave(running, End::Stop(Stop::Memory), share.changes())
+                }
                 ShareStop::JournalFull => {
+                    mem::drop(plan);
                     self.leave(running, End::Stop(Stop::JournalFull), share.changes())
                 }
                 _ => self.stopped(stop, running, Stage::Reserve(plan)),
