@@ -3,7 +3,5 @@
 
 mod appending;
 mod item;
-#[cfg(test)]
-mod tests;
 
 pub use appending::Appending;

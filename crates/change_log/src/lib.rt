@@ -13,8 +13,6 @@ mod owned;
 mod placed;
 mod seat;
 mod sound;
-#[cfg(test)]
-mod tests;
 mod weaving;
 mod woven;
 

@@ -8,8 +8,6 @@ mod loaded;
 mod loading;
 mod outlook;
 mod stops;
-#[cfg(test)]
-mod tests;
 
 pub use loaded::{Image, Loaded};
 pub use loading::{Loading, Went};

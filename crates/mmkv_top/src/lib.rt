@@ -8,16 +8,8 @@ mod halt;
 mod limits;
 mod lines;
 mod play;
-#[cfg(test)]
-mod play_tests;
 mod player;
-#[cfg(test)]
-mod random_tests;
 mod refusals;
-#[cfg(test)]
-mod second_reading;
-#[cfg(test)]
-mod tests;
 mod top;
 
 pub use ending::Status;

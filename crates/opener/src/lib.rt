@@ -8,11 +8,7 @@ mod plan;
 mod reads;
 mod refusals;
 mod reply;
-#[cfg(test)]
-mod tests;
 mod work;
-#[cfg(test)]
-mod write_tests;
 mod writes;
 
 pub use calls::{NotBegun, Refused, Step, Stop};

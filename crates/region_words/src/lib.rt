@@ -6,15 +6,12 @@ mod clock;
 mod copies;
 mod event;
 mod failing;
-#[cfg(test)]
-mod growing;
 mod id;
 mod laws;
 mod listed_events;
 mod mem_shelf;
 mod mem_sink;
 mod mem_source;
-mod mute;
 mod next;
 mod pages;
 mod payload_words;
@@ -23,19 +20,16 @@ mod region;
 mod row_maker;
 mod seat;
 mod share;
-#[cfg(test)]
-mod sharing;
 mod shelf;
 mod showing;
 mod sink;
 mod source;
 mod standing;
 mod stops;
-#[cfg(test)]
-mod tests;
 
 pub use account::Account;
 pub use clock::{Clock, SetClock};
+pub use copies::changes_in;
 pub use event::{Event, Mark, Side, TornWord, What};
 pub use failing::Failing;
 pub use id::is_id;

@@ -462,25 +462,3 @@ fn torn_byte(old: u8, new: u8, bits: u8) -> u8
 {
     if old == new { old } else { bits }
 }
-
-#[cfg(test)]
-mod tests {
-    use super::*;
-
-    // Word 3 of a store with the pair k, abc, as a put that begins at its last byte finds it.
-    #[test]
-    fn a_torn_word_keeps_the_bytes_on_which_old_and_new_agree(rt: HostRuntime) {
-        let old = u32::from_le_bytes([0x61, 0x62, 0x63, 0x00]);
-        let new = u32::from_le_bytes([0x61, 0x62, 0x63, 0x01]);
-        let left = torn_value(old, new, 0xffff_ffff);
-        assert_eq!(rt; left.to_le_bytes(), [0x61u8, 0x62, 0x63, 0xff]);
-    }
-
-    #[test]
-    fn a_file_over_its_limit_is_refused(rt: HostRuntime) {
-        let alloc = rt.alloc();
-        let meta = vec![in alloc; 0u8; 65_537].expect(&rt, "ample memory");
-        let refused = LocalRegion::new(alloc, Vec::new(alloc), meta).err();
-        assert_eq!(rt; refused, Some(RegionStop::SizeRefused(65_537)));
-    }
-}

@@ -11,8 +11,6 @@ mod line;
 mod outcome;
 mod output;
 mod region;
-#[cfg(test)]
-mod tests;
 mod value_words;
 mod words;
 

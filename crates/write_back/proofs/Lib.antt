@@ -1,2 +1,1 @@
 pub mod FewEvents
-pub mod Sample

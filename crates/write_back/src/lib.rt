@@ -3,7 +3,5 @@
 
 mod parts;
 mod rewriting;
-#[cfg(test)]
-mod tests;
 
 pub use rewriting::{RewriteStop, Rewriting};

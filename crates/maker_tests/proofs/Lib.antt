@@ -1,0 +1,2 @@
+pub mod AppendSample
+pub mod WriteBackSample

@@ -1,0 +1,7 @@
+use Rattle.std.proofs.Common.{sym, subst}
+use Rattle.write_back.specs.Rewrites.{CanWriteBack}
+use Rattle.maker_tests.proofs.WriteBackSample.{known, change, can_pack}
+use Rattle.maker_tests.proofs.write_backs.packing.Goals as goal
+
+pub start-requires : goal.start-requires
+start-requires c = subst (λ m. CanWriteBack known m change 7) (sym c.new.ensures) can_pack

@@ -1,5 +1,0 @@
-use Rattle.opener.specs.Opener.{Tied}
-use Rattle.opener.proofs.tests.finish.Given as goal
-
-abbrev pub invariant-loop : goal.invariant-loop
-invariant-loop g l = Tied l.opener (g.S.Share.state l.share)

@@ -1,0 +1,7 @@
+//! Tests of an opener's calls. They stand beside `opener`, since a crate that has tests is proved a second time with them.
+#![tactic(auto)]
+
+#[cfg(test)]
+mod reads;
+#[cfg(test)]
+mod writes;
