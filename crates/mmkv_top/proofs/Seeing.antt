@@ -24,7 +24,7 @@ use Rattle.region_words.specs.declared.event.Event.{Event}
 use Rattle.region_words.proofs.Regions.{lawful_accepted}
 use Rattle.mmkv_top.specs.Player.{FoundSaw, SawNoImage, StopSaw}
 use Rattle.mmkv_top.proofs.NoPlaces.{at_stop}
-use Rattle.region_words.proofs.WholeAtRest.{rests_free, whole_at_rest}
+use Rattle.region_words.proofs.WholeAtRest.{rests_free, steps_live, whole_at_rest}
 
 -- what holds of the thing in an option, if any
 if_some : {A : Type 0} {P Q : A → Type 0} (o : Option A) → ((x : A) → o ≡ Some x → P x → Q x) → IfSome o P → IfSome o Q
@@ -78,7 +78,7 @@ module _ (o : OpenerState) (s t : Seated) (tied : Tied o (seat_state t)) (still 
         not_whole = λ n whole. broken n (sym shows ∙ whole);
         apart = λ n began apart.
             let rest = at_rest apart in
-            let whole = whole_at_rest t.region.start tied.told.agrees.region tied.told.accepted 1 t.region.past rest.0 n tied.told.agrees.lawful apart own rest.1 began in
+            let whole = whole_at_rest t.region.start tied.told.agrees.region tied.told.accepted t.region.past rest.0 n tied.told.agrees.lawful apart (steps_live 1 t.region.past own) rest.1 began in
             broken whole.0 (sym shows ∙ whole.1);
       }
 

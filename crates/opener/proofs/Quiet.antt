@@ -13,7 +13,7 @@ use Rattle.meta_record.specs.declared.shown.Damage.TheVariants.{Content}
 use Rattle.meta_record.specs.declared.shown.Shown.{Shown}
 use Rattle.meta_record.specs.declared.shown.Shown.TheVariants.{Whole, Header, Last, Damaged}
 use Rattle.region_words.specs.Region.{Region, IsAccepted, IsRegion, base, flag, header, if_it_has_a_map, map_in, map_shown, payload_of, record_of, shown, size_of}
-use Rattle.region_words.specs.Past.{AreSteps, locks_after, region_after}
+use Rattle.region_words.specs.Past.{AreSteps, NoneDies, locks_after, region_after}
 use Rattle.region_words.specs.Apart.{Apart}
 use Rattle.region_words.specs.Lawful.{Lawful}
 use Rattle.region_words.specs.Outcome.{AtRest}
@@ -27,7 +27,7 @@ use Rattle.opener.specs.State.{OpenerState}
 use Rattle.opener.specs.Opener.{Knows, Tied, is_storing, lock_in}
 use Rattle.opener.specs.Quiet.{RestsQuietly, ShowsQuietly}
 use Rattle.opener.specs.declared.work.Work.{Work}
-use Rattle.region_words.proofs.WholeAtRest.{rests_free, rests_without_death, whole_at_rest}
+use Rattle.region_words.proofs.WholeAtRest.{rests_free, rests_without_death, steps_live, whole_at_rest}
 
 -- the map of the image of this size
 abbrev map_at : Region → ℕ → Option Map
@@ -52,26 +52,25 @@ mapped r sound = by_size r (shown_size (record_of r) (header r) r.data_bytes) so
 base_shown : (r : Region) → ((d : Damage) → shown r ≡ Damaged d → ⊥) → map_shown r ≡ Some (base r)
 base_shown r sound = let m = mapped r sound in m.1 ∙ sym (ap (λ o. Some (unwrap_or o fin.empty)) m.1)
 
--- between the rows of one opener that lives
-rests_quietly : (who : ℕ) (start : Region) (past : List Event) → IsRegion start → IsAccepted start → Lawful start past → Apart start past → AreSteps who past → AtRest start past →
-    RestsQuietly start past
-rests_quietly who start past region ok lawful apart own rest =
+-- between the rows of openers that live
+pub rests_quietly : (start : Region) (past : List Event) → IsRegion start → IsAccepted start → Lawful start past → Apart start past → NoneDies past → AtRest start past → RestsQuietly start past
+rests_quietly start past region ok lawful apart live rest =
     record {
-      map = λ sure. elim (rests_without_death start region ok who past rest.0 lawful apart own rest.1) [
+      map = λ sure. elim (rests_without_death start region ok past rest.0 lawful apart live rest.1) [
         | inl (same, none) ↦
             ap map_shown same ∙ base_shown start (λ d e. sure d e none) ∙ sym (ap (λ l. Some (replay (base start) l)) none)
         | inr (k, whole) ↦
             let m = mapped (region_after start past) (λ d e. let both : Whole k ≡ Damaged d = sym whole ∙ e in absurd cc) in
             m.1 ∙ ap Some (whole_history start past k m.0 (main_law start past region ok lawful apart rest) whole m.1)
       ];
-      whole = λ n shows. whole_at_rest start region ok who past rest.0 n lawful apart own rest.1 shows;
+      whole = λ n shows. whole_at_rest start region ok past rest.0 n lawful apart live rest.1 shows;
     }
 
 -- an opener alone leaves it so
 pub shows_quietly : (o : OpenerState) (s : ShareState) → Tied o s → ShowsQuietly o.who o.work s
 shows_quietly o s tied =
     told_map s.told (Knows o s) (λ h. AreSteps o.who h.past → is_storing o.work ≡ false → IsAccepted h.start → Apart h.start h.past → RestsQuietly h.start h.past)
-    (λ h k own calm ok apart. rests_quietly o.who h.start h.past k.agrees.region ok k.agrees.lawful apart own (rest h k own calm apart)) tied.told
+    (λ h k own calm ok apart. rests_quietly h.start h.past k.agrees.region ok k.agrees.lawful apart (steps_live o.who h.past own) (rest h k own calm apart)) tied.told
   where
     rest : (h : History) → Knows o s h → AreSteps o.who h.past → is_storing o.work ≡ false → Apart h.start h.past → AtRest h.start h.past
     rest h k own calm apart = go (lock_in o.holds o.work) refl

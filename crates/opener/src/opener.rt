@@ -4,7 +4,7 @@ ghost use Rattle.region_words.specs.Told.{OnTold, changes_told as changes_seen};
 ghost use Rattle.opener.specs.Calls.{IsBuilt};
 ghost use Rattle.opener.specs.Begins.{Begins, HasBytes, IsFirst, begun_at, refusal};
 ghost use Rattle.opener.specs.Adds.{Adds, AddsTo};
-ghost use Rattle.opener.specs.Opener.{Tied, running_as, HasCause, IsAnswer, KeepsCall, KeepsWork, OnAnswer, MakesOne, stop_found};
+ghost use Rattle.opener.specs.Opener.{Tied, running_as, HasCause, IsAnswer, KeepsCall, KeepsWork, OnAnswer, MakesOne, is_ended, stop_found};
 ghost use Rattle.opener.specs.Bound.{Falls, steps_left};
 ghost use Rattle.opener.specs.Settles.{BeginsSettled, Settles};
 ghost use Rattle.opener.specs.Quiet.{ShowsQuietly};
@@ -144,6 +144,13 @@ impl Opener {
             }
             Work::Runs { running, stage } => self.go(share, running, stage),
         }
+    }
+
+    /// Whether its share has failed. Then it makes no more calls.
+    pub fn is_ended(&self) -> bool
+        ensures { result ≡ is_ended self.now.work }
+    {
+        matches!(self.work, Work::Ended)
     }
 
     /// The stop with which the running call ends once its lock is given up, where it has found one.

@@ -7,7 +7,7 @@ use Rattle.meta_record.specs.declared.shown.Shown.TheVariants.{Whole}
 use Rattle.region_words.specs.Apart.{Apart}
 use Rattle.region_words.specs.Lawful.{Between, IsStep, Lawful, Phase, Reaches, map_after}
 use Rattle.region_words.specs.Outcome.{AtRest}
-use Rattle.region_words.specs.Past.{AreSteps, changes_of, is_death, locks_after, locks_step, region_after}
+use Rattle.region_words.specs.Past.{AreSteps, NoneDies, changes_of, is_death, locks_after, locks_step, region_after}
 use Rattle.region_words.specs.Region.{IsAccepted, IsRegion, Region, shown}
 use Rattle.region_words.specs.Share.{lock_of}
 use Rattle.region_words.specs.declared.event.Event.{Event}
@@ -41,18 +41,23 @@ module _ (start : Region) (region : IsRegion start) (ok : IsAccepted start) wher
   rest_step who Unlock past old room lawful apart lives leads step earlier = as_before past (earlier step.0.0 (subst (Reaches start past) step.0.1 leads))
   rest_step who (Died torn) past old room lawful apart lives leads step earlier = absurd cc
 
-  pub rests_without_death : (who : ℕ) (past : List Event) (room : Option ℕ) → Lawful start past → Apart start past → AreSteps who past → Reaches start past (Between room) → Rests past
-  rests_without_death who [] room lawful apart own leads = inl (refl, refl)
-  rests_without_death who (e ∷ past) room lawful apart own leads =
-      rest_step e.who e.what past leads.0 room lawful apart own.0.1 leads.1 leads.2
-      (λ before rests. rests_without_death who past before lawful.0 (Apart-front start e past apart) own.1 rests)
+  pub rests_without_death : (past : List Event) (room : Option ℕ) → Lawful start past → Apart start past → NoneDies past → Reaches start past (Between room) → Rests past
+  rests_without_death [] room lawful apart live leads = inl (refl, refl)
+  rests_without_death (e ∷ past) room lawful apart live leads =
+      rest_step e.who e.what past leads.0 room lawful apart live.0 leads.1 leads.2
+      (λ before rests. rests_without_death past before lawful.0 (Apart-front start e past apart) live.1 rests)
 
-  pub whole_at_rest : (who : ℕ) (past : List Event) (room : Option ℕ) (n : ℕ) → Lawful start past → Apart start past → AreSteps who past → Reaches start past (Between room) →
+  pub whole_at_rest : (past : List Event) (room : Option ℕ) (n : ℕ) → Lawful start past → Apart start past → NoneDies past → Reaches start past (Between room) →
       shown start ≡ Whole n → (k : ℕ) × (shown (region_after start past) ≡ Whole k)
-  whole_at_rest who past room n lawful apart own leads shows = elim (rests_without_death who past room lawful apart own leads) [
+  whole_at_rest past room n lawful apart live leads shows = elim (rests_without_death past room lawful apart live leads) [
     | inl (same, none) ↦ (n, ap shown same ∙ shows)
     | inr whole ↦ whole
   ]
+
+-- the steps of one opener are no deaths
+pub steps_live : (who : ℕ) (past : List Event) → AreSteps who past → NoneDies past
+steps_live who [] own = tt
+steps_live who (e ∷ past) own = (own.0.1, steps_live who past own.1)
 
 -- where all events are of one opener that lives on, nobody else holds the lock exclusive
 its_own : (mine : ℕ) (past : List Event) → AreSteps mine past → ((locks_after past).exclusive ≡ None) ⊎ ((locks_after past).exclusive ≡ Some mine)

@@ -72,6 +72,10 @@ has_died (e ∷ past) who = ((e.who == who) && is_death e.what) || has_died past
 abbrev pub NoneOf : ℕ → List Event → Type 0
 NoneOf who later = AllByRecursion (λ e. e.who ≢ who) later
 
+-- none of these events is a death
+abbrev pub NoneDies : List Event → Type 0
+NoneDies past = AllByRecursion (λ e. is_death e.what ≡ false) past
+
 -- all of them are of this opener, and none is its death
 abbrev pub AreSteps : ℕ → List Event → Type 0
 AreSteps who made = AllByRecursion (λ e. (e.who ≡ who) × (is_death e.what ≡ false)) made

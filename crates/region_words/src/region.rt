@@ -143,6 +143,7 @@ impl LocalRegion {
         requires most { who ≤ 64 }
         requires new { (account_of self.old.accounts who).admitted ≡ false }
         ensures ok { OnOk result (self.new ≡ with_account self.old who (after_admission (account_of self.old.accounts who))) }
+        ensures admitted { OnOk result ((account_of self.new.accounts who).admitted ≡ true) }
         ensures room { OnOk result (length self.new.past + kept_in self.new.accounts ≤ most_events) }
         ensures err { IfErr result (LacksPlaces self.old 1) }
         ensures same { IfErr result (λ _. self.new ≡ self.old) }

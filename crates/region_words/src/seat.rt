@@ -1,5 +1,5 @@
 // A seat at a region in memory: a share that owns it.
-ghost use Rattle.std.specs.Prelude.{◌≡◌, ◌+◌, ◌<◌, ◌≤◌, false, [], Some, None, length, IfErr, IfSome, OnOk};
+ghost use Rattle.std.specs.Prelude.{◌≡◌, ◌+◌, ◌<◌, ◌≤◌, false, true, [], Some, None, length, IfErr, IfSome, OnOk};
 ghost use Rattle.region_words.specs.Stores.{filled_up};
 ghost use Rattle.region_words.specs.Share.{IsNotDue, Fails, MayMake, MayTearAt, most_events};
 ghost use Rattle.region_words.specs.Local.{Seated, IsLocal, LacksPlaces, seat_state, seat_called, account_of, with_account, after_admission, kept_in, stop_of};
@@ -61,6 +61,7 @@ impl LocalSeat {
         requires most { who ≤ 64 }
         requires new { (account_of self.old.region.accounts who).admitted ≡ false }
         ensures ok { OnOk result (self.new ≡ record self.old { region = with_account self.old.region who (after_admission (account_of self.old.region.accounts who)) }) }
+        ensures admitted { OnOk result ((account_of self.new.region.accounts who).admitted ≡ true) }
         ensures room { OnOk result (length self.new.region.past + kept_in self.new.region.accounts ≤ most_events) }
         ensures err { IfErr result (LacksPlaces self.old.region 1) }
         ensures same { IfErr result (λ _. self.new ≡ self.old) }

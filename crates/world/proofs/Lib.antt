@@ -1,0 +1,6 @@
+pub mod Stays
+pub mod Numbered
+pub mod Stepped
+pub mod Together
+pub mod Turns
+pub mod Fresh

@@ -1,0 +1,64 @@
+-- Several openers of one region.
+use Rattle.std.specs.Prelude.{◌≡◌, ℕ, ◌+◌, ◌-◌, ◌<◌, ◌≤◌, Bool, true, false, List, [], length, filter, slice_get, All, Some}
+use Rattle.change_log.specs.EachCaller.{answers_of}
+use Rattle.change_log.specs.declared.call.Answer.{Answer}
+use Rattle.region_words.specs.Lawful.{Lawful}
+use Rattle.region_words.specs.Local.{Local, account_of, seat_state}
+use Rattle.region_words.specs.Past.{NoneOf}
+use Rattle.region_words.specs.Region.{IsAccepted}
+use Rattle.region_words.specs.Share.{ShareState}
+use Rattle.region_words.specs.Told.{History}
+use Rattle.opener.specs.Opener.{Tied, is_ended}
+use Rattle.opener.specs.Settles.{AreSettled}
+use Rattle.opener.specs.State.{OpenerState}
+use Rattle.opener.specs.declared.work.Work.{Work}
+use Rattle.opener.specs.declared.work.Work.TheVariants.{Idle, Ended, Runs}
+
+-- the region, the openers in the order of their numbers, and what they answered, the first answer first
+pub record WorldState : Type 0 where
+  pub region : Local
+  pub openers : List OpenerState
+  pub answers : List Answer
+
+-- the share with which this opener makes its calls
+abbrev pub share_of : Local → ℕ → ShareState
+share_of l who = seat_state (record { who = who; region = l })
+
+abbrev pub history_of : Local → History
+history_of l = record { start = l.start; past = l.past }
+
+-- the opener of this number is this one, and lives
+pub record Lives (openers : List OpenerState) (who : ℕ) (o : OpenerState) : Type 0 where
+  pub numbered : 1 ≤ who
+  pub there : slice_get openers (who - 1) ≡ Some o
+  pub alive : is_ended o.work ≡ false
+
+-- an opener is tied to the region, and all that it answered is settled
+pub record OpenerIs (l : Local) (answers : List Answer) (who : ℕ) (o : OpenerState) : Type 0 where
+  pub number : o.who ≡ who
+  pub tied : Tied o (share_of l who)
+  pub settled : AreSettled o (answers_of who answers) (history_of l)
+
+-- a number that no opener has: nothing was made or answered by it
+pub record IsUnused (l : Local) (answers : List Answer) (who : ℕ) : Type 0 where
+  pub outside : (account_of l.accounts who).admitted ≡ false
+  pub silent : NoneOf who l.past
+  pub unanswered : answers_of who answers ≡ []
+
+-- what is true of every world
+pub record IsWorld (l : Local) (openers : List OpenerState) (answers : List Answer) : Type 0 where
+  pub few : length openers ≤ 64
+  pub accepted : IsAccepted l.start
+  pub lawful : Lawful l.start l.past
+  pub each : (i : ℕ) (o : OpenerState) → slice_get openers i ≡ Some o → OpenerIs l answers (i + 1) o
+  pub unused : (who : ℕ) → length openers < who → IsUnused l answers who
+  pub theirs : All (λ a. (1 ≤ a.who) × (a.who ≤ length openers)) answers
+
+abbrev pub runs_call : Work → Bool
+runs_call Idle = false
+runs_call Ended = false
+runs_call (Runs running stage) = true
+
+-- how many calls run, each of which may be answered yet
+abbrev pub calls_running : List OpenerState → ℕ
+calls_running openers = length (filter (λ o. runs_call o.work) openers)

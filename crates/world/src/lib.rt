@@ -1,0 +1,12 @@
+//! Several openers of one region in memory: whose step comes next is for the caller to say.
+#![tactic(auto)]
+
+mod moves;
+mod openers;
+mod stops;
+mod world;
+
+pub use moves::Moved;
+pub use openers::MOST_OPENERS;
+pub use stops::{NotOpened, OpenStop, WorldStop};
+pub use world::World;

@@ -1,0 +1,176 @@
+// Openers by their numbers, and what they do to the region that they share.
+ghost use Rattle.std.specs.Prelude.{◌≡◌, ◌≢◌, ◌+◌, ◌++◌, ◌∷◌, [], ◌<◌, ◌≤◌, None, IfErr, IfOk, IfSome, OnErr, OnOk, false, length, slice_get, slice_set, vec_capacity, vec_len};
+ghost use Rattle.region_words.specs.Local.{seat_state};
+ghost use Rattle.region_words.specs.Region.{IsAccepted};
+ghost use Rattle.opener.specs.Calls.{IsBuilt};
+ghost use Rattle.opener.specs.Opener.{Tied, is_ended};
+ghost use Rattle.opener.specs.Settles.{answers_by};
+ghost use Rattle.opener.specs.State.{OpenerState};
+ghost use Rattle.opener.specs.declared.work.Work.TheVariants as Work;
+ghost use Rattle.world.specs.World.{IsWorld, Lives, WorldState, calls_running};
+ghost use Rattle.world.specs.Moves.{Begun, HoldsAreKept, IfAnswered, IsNotBegun, IsNotOpened, IsSaid, Moves, Opens, new_opener, stop_of_admission, world_of};
+
+use crate::moves::Moved;
+use crate::stops::{NotOpened, OpenStop, WorldStop};
+use change_log::{Answer, Call};
+use handlers::Handler;
+use opener::{Opener, Step};
+use region_words::{AdmitStop, LocalSeat, Share};
+use std::alloc::Global;
+use std::mem;
+
+/// How many openers a world takes.
+pub const MOST_OPENERS: usize = 64;
+
+// The place of the opener of this number, where it lives.
+pub(crate) fn place_of(openers: &[Opener], who: u32) -> Option<usize>
+    ensures some { IfSome result (λ place. (place + 1 ≡ who) × (place < length openers.now) × ((o : OpenerState) → slice_get openers.now place ≡ Some o → is_ended o.work ≡ false)) }
+    ensures none { result ≡ None → (o : OpenerState) → Lives openers.now who o → ⊥ }
+{
+    let place = (who as usize).checked_sub(1)?;
+    let opener = openers.get(place)?;
+    if opener.is_ended() {
+        return None;
+    }
+    Some(place)
+}
+
+// Opens one more opener.
+pub(crate) fn open_one(
+    alloc: Global,
+    seat: &mut LocalSeat,
+    openers: &mut Vec<Opener>,
+    answers: &Vec<Answer>,
+    handler: Box<dyn Handler + Send>,
+) -> Result<u32, NotOpened>
+    requires { IsWorld seat.old.region openers.old.items answers.now.items }
+    ensures world { IsWorld seat.new.region openers.new.items answers.now.items }
+    ensures running { calls_running openers.new.items ≡ calls_running openers.old.items }
+    ensures ok { IfOk result (λ who. Opens who (world_of seat.old openers.old.items answers.now.items) (world_of seat.new openers.new.items answers.now.items)) }
+    ensures err { IfErr result (λ n. IsNotOpened n.why (world_of seat.old openers.old.items answers.now.items)) }
+    ensures same { OnErr result ((seat.new.region ≡ seat.old.region) × (openers.new.items ≡ openers.old.items)) }
+{
+    let count = openers.len();
+    if count >= MOST_OPENERS {
+        let why = OpenStop::TooMany;
+        return Err(NotOpened { why, handler });
+    }
+    if openers.reserve(1).is_err() {
+        let why = OpenStop::Memory;
+        return Err(NotOpened { why, handler });
+    }
+    let who = count as u32 + 1;
+    seat.turn_to(who);
+    if let Err(stop) = seat.admit(who) {
+        let why = not_admitted(stop);
+        return Err(NotOpened { why, handler });
+    }
+    let opener = opener_at(alloc, seat, handler);
+    push_within(openers, opener);
+    Ok(who)
+}
+
+fn not_admitted(stop: AdmitStop) -> OpenStop
+    ensures { result ≡ stop_of_admission stop }
+{
+    match stop {
+        AdmitStop::JournalFull => OpenStop::JournalFull,
+        AdmitStop::Memory => OpenStop::Memory,
+    }
+}
+
+// An opener that has made no call.
+fn opener_at(alloc: Global, seat: &LocalSeat, handler: Box<dyn Handler + Send>) -> Opener
+    requires alive { (seat_state seat.now).ended ≡ false }
+    requires free { (seat_state seat.now).holds ≡ None }
+    requires accepted { IsAccepted seat.now.region.start }
+    ensures tied { Tied result (seat_state seat.now) }
+    ensures new { result ≡ new_opener seat.now.who }
+{
+    Opener::new(alloc, seat.who(), handler)
+}
+
+// Begins a call of the opener at this place.
+pub(crate) fn begin_at(
+    seat: &mut LocalSeat,
+    openers: &mut Vec<Opener>,
+    answers: &Vec<Answer>,
+    place: usize,
+    call: Call,
+    now: u32,
+) -> Result<(), WorldStop>
+    requires world { IsWorld seat.old.region openers.old.items answers.now.items }
+    requires inside { place < vec_len openers.old }
+    requires alive { (o : OpenerState) → slice_get openers.old.items place ≡ Some o → is_ended o.work ≡ false }
+    requires built { IsBuilt call }
+    ensures world { IsWorld seat.new.region openers.new.items answers.now.items }
+    ensures ok { OnOk result (Begun (place + 1) call now (world_of seat.old openers.old.items answers.now.items) (world_of seat.new openers.new.items answers.now.items)) }
+    ensures err { IfErr result (λ why. IsNotBegun why (place + 1) call (world_of seat.old openers.old.items answers.now.items)) }
+    ensures refused { IfErr result (λ why. why ≢ WorldStop.NoOpener) }
+    ensures same { OnErr result ((seat.new.region ≡ seat.old.region) × (openers.new.items ≡ openers.old.items)) }
+{
+    seat.turn_to(place as u32 + 1);
+    match openers[place].begin(seat, call, now) {
+        Ok(()) => Ok(()),
+        Err(not_begun) => {
+            let why = not_begun.why;
+            mem::drop(not_begun);
+            Err(WorldStop::Refused(why))
+        }
+    }
+}
+
+// The next step of the opener at this place. There is room for its answer.
+pub(crate) fn step_at(
+    seat: &mut LocalSeat,
+    openers: &mut Vec<Opener>,
+    answers: &mut Vec<Answer>,
+    place: usize,
+) -> Moved
+    requires world { IsWorld seat.old.region openers.old.items answers.old.items }
+    requires inside { place < vec_len openers.old }
+    requires alive { (o : OpenerState) → slice_get openers.old.items place ≡ Some o → is_ended o.work ≡ false }
+    requires room { vec_len answers.old + calls_running openers.old.items ≤ vec_capacity answers.old }
+    ensures world { IsWorld seat.new.region openers.new.items answers.new.items }
+    ensures room { vec_len answers.new + calls_running openers.new.items ≤ vec_capacity answers.new }
+    ensures moves { Moves (place + 1) result (world_of seat.old openers.old.items answers.old.items) (world_of seat.new openers.new.items answers.new.items) }
+    ensures lives { result ≢ Moved.NoOpener }
+    ensures held { HoldsAreKept (place + 1) (world_of seat.old openers.old.items answers.old.items) (world_of seat.new openers.new.items answers.new.items) }
+{
+    seat.turn_to(place as u32 + 1);
+    let came = openers[place].step(seat);
+    said(came, answers)
+}
+
+// What is said of a step. An answer is put behind the others, where there is room for one.
+fn said(came: Step, answers: &mut Vec<Answer>) -> Moved
+    requires room { IfAnswered came (vec_len answers.old < vec_capacity answers.old) }
+    requires turnless { came ≢ Step.Again }
+    ensures said { IsSaid (vec_len answers.old) came result }
+    ensures answers { answers.new.items ≡ answers.old.items ++ answers_by came }
+    ensures capacity { vec_capacity answers.old ≤ vec_capacity answers.new }
+{
+    match came {
+        Step::Idle => Moved::Idle,
+        Step::Going => Moved::Going,
+        Step::Again => unreachable!(),
+        Step::Blocked(holder) => Moved::Blocked(holder),
+        Step::Answered(answer) => {
+            let place = answers.len();
+            push_within(answers, answer);
+            Moved::Answered(place)
+        }
+        Step::Stopped(stop) => Moved::Stopped(stop),
+    }
+}
+
+// Puts a value behind the others, where there is room for one.
+fn push_within<T: Drop>(list: &mut Vec<T>, value: T)
+    requires { vec_len list.old < vec_capacity list.old }
+    ensures items { list.new.items ≡ list.old.items ++ value ∷ [] }
+    ensures capacity { vec_capacity list.old ≤ vec_capacity list.new }
+{
+    if list.push(value).is_err() {
+        unreachable!()
+    }
+}

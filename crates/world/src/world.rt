@@ -1,0 +1,137 @@
+// A world: a region in memory, the openers that were opened in it, and what they answered.
+ghost use Rattle.std.specs.Prelude.{◌≡◌, [], IfErr, IfOk, OnErr, OnOk, replicate};
+ghost use Rattle.opener.specs.Calls.{IsBuilt};
+ghost use Rattle.region_words.specs.Local.{no_account};
+ghost use Rattle.region_words.specs.Region.{IsAccepted};
+ghost use Rattle.world.specs.Moves.{Begun, HoldsAreKept, IsNotBegun, IsNotOpened, IsOneHistory, Moves, Opens, RestsWithItsHistory, RestsWithoutDeath};
+
+use crate::moves::Moved;
+use crate::openers::{MOST_OPENERS, begin_at, open_one, place_of, step_at};
+use crate::stops::{NotOpened, WorldStop};
+use change_log::{Answer, Call};
+use handlers::Handler;
+use opener::Opener;
+use region_words::{LocalRegion, LocalSeat};
+use std::alloc::Global;
+use std::marker::Model;
+use std::mem;
+
+/// A region in memory with its openers, which have the numbers 1, 2, .. in the order in which they were opened.
+#[derive(Drop)]
+pub struct World {
+    alloc: Global,
+    seat: LocalSeat,
+    openers: Vec<Opener>,
+    answers: Vec<Answer>,
+}
+
+impl Model for World {
+    ghost use Rattle.std.specs.Prelude.{◌+◌, ◌≤◌, vec_capacity, vec_len};
+    ghost use Rattle.std.specs.Coded.{codes};
+    ghost use Rattle.expiring_map.specs.contracts.map.ExpiringMap as map;
+    ghost use Rattle.world.specs.World.{IsWorld, WorldState, calls_running};
+
+    ghost Value = { WorldState };
+
+    ghost coded = { Prim.hlevel (codes, map.the_row.coded) };
+
+    ghost view = { λ w. record { region = w.seat.region; openers = w.openers.items; answers = w.answers.items } };
+
+    ghost invariant = { λ w. IsWorld w.seat.region w.openers.items w.answers.items × (vec_len w.answers + calls_running w.openers.items ≤ vec_capacity w.answers) };
+}
+
+impl World {
+    /// A world without openers. Its region is one that was just made; its calls may be such as are to fail.
+    pub fn new(alloc: Global, region: LocalRegion) -> World
+        requires past { region.past ≡ [] }
+        requires new { region.accounts ≡ replicate 65 no_account }
+        requires accepted { IsAccepted region.start }
+        ensures { result ≡ record { region = region; openers = []; answers = [] } }
+    {
+        World {
+            alloc,
+            seat: region.seat(1),
+            openers: Vec::new(alloc),
+            answers: Vec::new(alloc),
+        }
+    }
+
+    /// Opens one more opener, and gives its number. It lives until a call on the region fails for it.
+    pub fn open(&mut self, handler: Box<dyn Handler + Send>) -> Result<u32, NotOpened>
+        ensures ok { IfOk result (λ who. Opens who self.old self.new) }
+        ensures err { IfErr result (λ n. IsNotOpened n.why self.old) }
+        ensures same { OnErr result (self.new ≡ self.old) }
+    {
+        open_one(
+            self.alloc,
+            &mut self.seat,
+            &mut self.openers,
+            &self.answers,
+            handler,
+        )
+    }
+
+    /// Begins a call of an opener at a moment, in seconds. So far `Enable` and `Disable` are not among the calls. Room is kept for
+    /// its answer. Where it isn't begun, nothing changes.
+    pub fn begin(&mut self, who: u32, call: Call, now: u32) -> Result<(), WorldStop>
+        requires { IsBuilt call }
+        ensures ok { OnOk result (Begun who call now self.old self.new) }
+        ensures err { IfErr result (λ why. IsNotBegun why who call self.old) }
+        ensures same { OnErr result (self.new ≡ self.old) }
+    {
+        let Some(place) = place_of(&self.openers, who) else {
+            mem::drop(call);
+            return Err(WorldStop::NoOpener);
+        };
+        let Ok(()) = self.answers.reserve(MOST_OPENERS) else {
+            mem::drop(call);
+            return Err(WorldStop::Memory);
+        };
+        begin_at(
+            &mut self.seat,
+            &mut self.openers,
+            &self.answers,
+            place,
+            call,
+            now,
+        )
+    }
+
+    /// The next step of an opener's call. It takes no memory but what the call itself takes.
+    pub fn step(&mut self, who: u32) -> Moved
+        ensures moves { Moves who result self.old self.new }
+        ensures held { HoldsAreKept who self.old self.new }
+    {
+        let Some(place) = place_of(&self.openers, who) else {
+            return Moved::NoOpener;
+        };
+        step_at(&mut self.seat, &mut self.openers, &mut self.answers, place)
+    }
+
+    /// What was answered, in the order of the answers.
+    pub fn answers(&self) -> &[Answer]
+        ensures answers { result.now ≡ self.now.answers }
+        ensures history { IsOneHistory self.now }
+    {
+        &self.answers
+    }
+
+    /// The region as it is, with the journal of what the openers did.
+    pub fn region(&self) -> &LocalRegion
+        ensures region { result.now ≡ self.now.region }
+        ensures accepted { IsAccepted self.now.region.start }
+        ensures shows { RestsWithItsHistory self.now }
+        ensures undying { RestsWithoutDeath self.now }
+    {
+        let region = self.seat.region();
+        region.journal();
+        region
+    }
+
+    /// The region, without its openers.
+    pub fn into_region(self) -> LocalRegion
+        ensures { result ≡ self.region }
+    {
+        self.seat.into_region()
+    }
+}
