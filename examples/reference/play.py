@@ -1,5 +1,5 @@
 #!/usr/bin/env python3
-"""A reference model of `mmkv DIR play ID` for one opener: a second computation of what that command prints.
+"""A reference model of `mmkv DIR play ID`, for several openers of which none dies: a second computation of what that command prints.
 
     examples/reference/play.py DIR ID < SCRIPT
 
@@ -21,7 +21,7 @@ import struct
 import sys
 import zlib
 from dataclasses import dataclass, field
-from typing import Any, Callable, Dict, Generator, Iterator, List, Optional, Tuple
+from typing import Any, Callable, Dict, Generator, Iterator, List, Optional, Set, Tuple
 
 PAGE = 4096
 LARGEST_DATA = 1 << 26
@@ -31,6 +31,7 @@ MOST_LINES = 1 << 20
 LONGEST_LINE = 1 << 16
 MOST_STEPS = 1 << 20
 MOST_HOLDS = 1000
+MOST_OPENERS = 64
 JOURNAL_LIMIT = 1 << 22
 LAST_SEQUENCE = 0xFFFFFFFF
 
@@ -55,6 +56,14 @@ class Ended(Exception):
 
 class JournalFull(Exception):
     """The journal has no place for the events asked."""
+
+
+class Busy(Exception):
+    """Another opener, the least of them, holds a lock that stands against the one asked."""
+
+    def __init__(self, holder: int):
+        super().__init__(holder)
+        self.holder = holder
 
 
 # ------------------------------------------------------------------------------------------------------------------------------------
@@ -185,6 +194,8 @@ class Region:
         self.changes: List[Change] = []
         self.events = 0
         self.kept = 0
+        self.sharers: Set[int] = set()
+        self.exclusive: Optional[int] = None
 
     # What may be read at any moment
 
@@ -227,12 +238,25 @@ class Region:
     def peek(self, word: int) -> int:
         return self.meta_word(word)
 
-    def lock(self) -> None:
-        """With one opener no lock ever stands against another. A place is kept for the unlock."""
+    def lock_shared(self, who: int) -> None:
+        self.see_free(set() if self.exclusive is None else {self.exclusive})
+        self.sharers.add(who)
+
+    def lock_exclusive(self, who: int) -> None:
+        self.see_free(self.sharers | (set() if self.exclusive is None else {self.exclusive}))
+        self.exclusive = who
+
+    def see_free(self, holders: Set[int]) -> None:
+        """No holder stands against a lock. Then it is taken: a place is kept for its unlock."""
+        if holders:
+            raise Busy(min(holders))
         self.keep(1, coming=1)
         self.events += 1
 
-    def unlock(self) -> None:
+    def unlock(self, who: int) -> None:
+        self.sharers.discard(who)
+        if self.exclusive == who:
+            self.exclusive = None
         self.kept -= 1
         self.events += 1
 
@@ -396,7 +420,7 @@ class Opener:
         self.running = Running(call, now, len(self.region.changes), self.steps_of(call, now))
 
     def step(self) -> Optional[str]:
-        """Makes the next operation of the call that runs. A line of text where the call ended with it, else None."""
+        """Makes the next operation of the call that runs. A line of text where the call ended with it or has to wait, else None."""
         running = self.running
         try:
             if not running.started:
@@ -406,6 +430,8 @@ class Opener:
             answered = method(*arguments)
             self.count(running, method.__name__)
             running.next = running.steps.send(answered)
+        except Busy as busy:
+            return f'blocked {self.who} by {busy.holder}'
         except StopIteration as end:
             self.running = None
             return self.end_text(running, end.value)
@@ -417,7 +443,7 @@ class Opener:
             running.loads += 1
         elif operation in ('store_data', 'store_meta'):
             running.stores += 1
-        elif operation == 'lock':
+        elif operation in ('lock_shared', 'lock_exclusive'):
             running.locks += 1
 
     def end_text(self, running: Running, end: Any) -> str:
@@ -440,14 +466,14 @@ class Opener:
 
     def hold(self) -> Steps:
         if self.holds == 0:
-            yield (self.region.lock,)
+            yield (self.region.lock_exclusive, self.who)
         self.holds += 1
         return Replied('done', len(self.region.changes))
 
     def release(self) -> Steps:
         self.holds -= 1
         if self.holds == 0:
-            yield (self.region.unlock,)
+            yield (self.region.unlock, self.who)
         return Replied('done', len(self.region.changes))
 
     def read(self, call: Call, now: int) -> Steps:
@@ -455,17 +481,17 @@ class Opener:
         current, place = yield from self.notice()
         if not current:
             if not self.holds:
-                yield (self.region.lock,)
+                yield (self.region.lock_shared, self.who)
             self.image = yield from self.full_load()
             place = len(self.region.changes)
             if not self.holds:
-                yield (self.region.unlock,)
+                yield (self.region.unlock, self.who)
         return Replied(reply_of(call, self.image.pairs, now), place)
 
     def write(self, call: Call, now: int) -> Steps:
         """Under the exclusive lock: the image, the refusals, the events. A stop is answered after the lock is left."""
         if not self.holds:
-            yield (self.region.lock,)
+            yield (self.region.lock_exclusive, self.who)
         current, _ = yield from self.notice()
         if not current:
             self.image = yield from self.full_load()
@@ -476,7 +502,7 @@ class Opener:
             self.image = None
             end = Stopped(stop.reason)
         if not self.holds:
-            yield (self.region.unlock,)
+            yield (self.region.unlock, self.who)
         return end
 
     def notice(self) -> Steps:
@@ -751,7 +777,7 @@ def region_text(region: Region) -> List[str]:
 class Player:
     """A script played on a region, line by line."""
     region: Region
-    opener: Optional[Opener] = None
+    openers: List[Opener] = field(default_factory=list)
     lines: List[str] = field(default_factory=list)
 
     def play(self, script: bytes) -> None:
@@ -774,15 +800,16 @@ class Player:
             self.step(self.opener_of(line.who), line.count)
 
     def open(self) -> None:
-        if self.opener:
-            raise BadLine  # a second opener isn't built yet
+        """The next opener. There is a handler of each strategy for each."""
+        if len(self.openers) == MOST_OPENERS:
+            raise BadLine
         self.region.admit()
-        self.opener = Opener(1, self.region)
+        self.openers.append(Opener(len(self.openers) + 1, self.region))
 
     def opener_of(self, who: int) -> Opener:
-        if not self.opener or self.opener.who != who:
+        if not 1 <= who <= len(self.openers):
             raise BadLine
-        return self.opener
+        return self.openers[who - 1]
 
     def step(self, opener: Opener, count: int) -> None:
         """Up to so many steps; an end of the call ends the line early. A step of an idle opener names nothing."""

@@ -1,5 +1,5 @@
 -- What was answered stays so, and one answer more joins it.
-use Rattle.std.proofs.Common.{◌≡◌, ◌≤◌, List, [], ◌∷◌, ◌++◌, length, sym, ap, arith, subst, append-nil, length-append}
+use Rattle.std.proofs.Common.{◌≡◌, ◌≢◌, ℕ, ◌≤◌, List, [], ◌∷◌, ◌++◌, length, sym, ap, arith, subst, ◌∙◌, length-append}
 use Rattle.std.specs.Prelude.{Option, Some, None, All, option_map}
 use Rattle.std.proofs.lemmas.List.Elements.{All-push, All-weaker}
 use Rattle.std.proofs.lemmas.List.Quantifiers.{all_pairs_push}
@@ -15,21 +15,17 @@ use Rattle.region_words.specs.declared.event.Event.{Event}
 use Rattle.region_words.proofs.ReadLaws.{apart_front, changes_more}
 use Rattle.mmkv_top.specs.Parts.{Running, going_on}
 use Rattle.mmkv_top.specs.Play.{AreAnswered}
-use Rattle.mmkv_top.specs.Player.{AreEarlier, HasAnswered}
+use Rattle.mmkv_top.specs.Progress.{AreEarlier}
 
-pub nothing_answered : (start : Region) → HasAnswered start [] None []
+pub nothing_answered : (start : Region) → AreAnswered start [] []
 nothing_answered start =
     record {
-      are = record {
-        in_order = λ i j d le lt. absurd (omega (arith, lt));
-        made = λ k d lt. absurd (omega (arith, lt));
-        placed = λ ok apart k d lt. absurd (omega (arith, lt));
-      };
-      within = λ k d lt. absurd (omega (arith, lt));
-      earlier = tt;
+      in_order = λ i j d le lt. absurd (omega (arith, lt));
+      made = λ k d lt. absurd (omega (arith, lt));
+      placed = λ ok apart k d lt. absurd (omega (arith, lt));
     }
 
-answered_later : (start : Region) (more past : List Event) (answers : List Answer) → AreAnswered start past answers → AreAnswered start (more ++ past) answers
+pub answered_later : (start : Region) (more past : List Event) (answers : List Answer) → AreAnswered start past answers → AreAnswered start (more ++ past) answers
 answered_later start more past answers h =
     record {
       in_order = h.in_order;
@@ -41,40 +37,38 @@ answered_later start more past answers h =
           (λ a is. placed_later (base start) (changes_of past) (changes_of more) a is) answers (h.placed ok (apart_front start more past apart)));
     }
 
-within_later : (more past : List Event) (answers : List Answer) → AreEndedBy (length (changes_of past)) answers → AreEndedBy (length (changes_of (more ++ past))) answers
+pub within_later : (more past : List Event) (answers : List Answer) → AreEndedBy (length (changes_of past)) answers → AreEndedBy (length (changes_of (more ++ past))) answers
 within_later more past answers h =
     All-weaker (λ a. a.ended ≤ length (changes_of past)) (λ a. a.ended ≤ length (changes_of (more ++ past)))
     (λ a le. omega (arith, le, ap length (changes_more more past), length-append (changes_of past) (changes_of more))) answers h
 
--- more events of the same call, and no answer
-pub goes_on : (start : Region) (more past : List Event) (r : Option Running) (answers : List Answer) → HasAnswered start past r answers →
-    HasAnswered start (more ++ past) (option_map (going_on more) r) (answers ++ [])
-goes_on start more past r answers h =
-    subst (HasAnswered start (more ++ past) (option_map (going_on more) r)) (sym (append-nil answers))
-    (record { are = answered_later start more past answers h.are; within = within_later more past answers h.within; earlier = go r h.earlier })
-  where
-    go : (r : Option Running) → AreEarlier r answers → AreEarlier (option_map (going_on more) r) answers
-    go None e = tt
-    go (Some r) e = e
-
--- the call was stopped
-pub stops : (start : Region) (more past : List Event) (r : Option Running) (answers : List Answer) → HasAnswered start past r answers →
-    HasAnswered start (more ++ past) None (answers ++ [])
-stops start more past r answers h =
-    let on = goes_on start more past r answers h in record { are = on.are; within = on.within; earlier = tt }
-
--- the call was answered
-pub answers_one : (start : Region) (more past : List Event) (r : Running) (answers : List Answer) (a : Answer) → HasAnswered start past (Some r) answers →
-    a.begun ≡ length (changes_of r.past) → IsAnswer a start (more ++ past) → HasAnswered start (more ++ past) None (answers ++ a ∷ [])
-answers_one start more past r answers a h begun is =
-    let old = answered_later start more past answers h.are in
+-- the call of the one who answered was begun after all its answers
+pub answers_one : (who : ℕ) (start : Region) (more past : List Event) (r : Running) (answers : List Answer) (a : Answer) → AreAnswered start past answers → AreEarlier who (Some r) answers →
+    a.who ≡ who → a.begun ≡ length (changes_of r.past) → IsAnswer a start (more ++ past) → AreAnswered start (more ++ past) (answers ++ a ∷ [])
+answers_one who start more past r answers a so_far earlier by begun is =
+    let old = answered_later start more past answers so_far in
     record {
-      are = record {
-        in_order = all_pairs_push (λ (x : Answer) (y : Answer). x.who ≡ y.who → x.ended ≤ y.begun) answers a old.in_order (λ k d lt same. omega (arith, h.earlier k d lt, begun));
-        made = All-push (IsMade (base start) (changes_of (more ++ past))) answers a old.made is.made;
-        placed = λ ok apart. All-push (IsPlaced (base start) (changes_of (more ++ past))) answers a (old.placed ok apart)
-            (record { begun = is.begun; ended = is.placed; within = omega (arith, is.ended); reply = is.reply ok apart });
-      };
-      within = All-push (λ x. x.ended ≤ length (changes_of (more ++ past))) answers a (within_later more past answers h.within) (omega (arith, is.ended));
-      earlier = tt;
+      in_order = all_pairs_push (λ (x : Answer) (y : Answer). x.who ≡ y.who → x.ended ≤ y.begun) answers a old.in_order (λ k d lt same. omega (arith, earlier k d lt (same ∙ by), begun));
+      made = All-push (IsMade (base start) (changes_of (more ++ past))) answers a old.made is.made;
+      placed = λ ok apart. All-push (IsPlaced (base start) (changes_of (more ++ past))) answers a (old.placed ok apart)
+          (record { begun = is.begun; ended = is.placed; within = omega (arith, is.ended); reply = is.reply ok apart });
     }
+
+pub one_within : (start : Region) (more past : List Event) (answers : List Answer) (a : Answer) → AreEndedBy (length (changes_of past)) answers → IsAnswer a start (more ++ past) →
+    AreEndedBy (length (changes_of (more ++ past))) (answers ++ a ∷ [])
+one_within start more past answers a within is =
+    All-push (λ x. x.ended ≤ length (changes_of (more ++ past))) answers a (within_later more past answers within) (omega (arith, is.ended))
+
+-- all that was answered by now was answered before a call that begins now
+pub earlier_now : (who : ℕ) (r : Running) (answers : List Answer) → AreEndedBy (length (changes_of r.past)) answers → AreEarlier who (Some r) answers
+earlier_now who r answers within =
+    All-weaker (λ a. a.ended ≤ length (changes_of r.past)) (λ a. a.who ≡ who → a.ended ≤ length (changes_of r.past)) (λ a le same. le) answers within
+
+-- what another answers, and what the call itself goes on with, change nothing of that
+pub earlier_on : (who : ℕ) (more : List Event) (r : Option Running) (answers : List Answer) → AreEarlier who r answers → AreEarlier who (option_map (going_on more) r) answers
+earlier_on who more None answers e = tt
+earlier_on who more (Some r) answers e = e
+
+pub earlier_other : (who : ℕ) (r : Option Running) (answers : List Answer) (a : Answer) → a.who ≢ who → AreEarlier who r answers → AreEarlier who r (answers ++ a ∷ [])
+earlier_other who None answers a n e = tt
+earlier_other who (Some r) answers a n e = All-push (λ (x : Answer). x.who ≡ who → x.ended ≤ length (changes_of r.past)) answers a e (λ same. absurd (n same))

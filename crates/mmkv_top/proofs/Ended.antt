@@ -8,34 +8,32 @@ use Rattle.meta_record.specs.declared.shown.Shown.TheVariants.{Whole, Header, La
 use Rattle.meta_record.specs.Records.{checked}
 use Rattle.region_words.specs.Region.{Region, IsAccepted, record_of, header, shown, if_accepted, shown_if_accepted}
 use Rattle.region_words.specs.Past.{changes_of, region_after}
-use Rattle.script_lang.specs.Texts.{line, run_text}
+use Rattle.script_lang.specs.Texts.{line, changes_text, region_text, run_text}
 use Rattle.mmkv_top.specs.declared.ending.Ending.{Ending}
 use Rattle.mmkv_top.specs.declared.halt.Halt.{Halt}
 use Rattle.mmkv_top.specs.declared.halt.Halt.TheVariants as halt
 use Rattle.mmkv_top.specs.Ending.{ending}
-use Rattle.mmkv_top.specs.State.{PlayerState}
+use Rattle.mmkv_top.specs.State.{PlayState}
 use Rattle.mmkv_top.specs.Parts.{lines_of, past_of, outcomes_of}
 use Rattle.mmkv_top.specs.Played.{Stock}
 use Rattle.mmkv_top.specs.Play.{IsWithin, AreLines, IsPlayed, IsEndedEarly, PlaysInput}
-use Rattle.mmkv_top.specs.Player.{IsReady, IsTaken, HaltsAt, IsEndingAt}
+use Rattle.world.specs.World.{IsSound}
+use Rattle.mmkv_top.specs.Progress.{IsTaken, HaltsAt, IsEndingAt}
 use Rattle.mmkv_top.specs.Due.{IsAmong, IsPlayOf, IsInputPlay, PlayShown, play_statuses}
 use Rattle.mmkv_top.proofs.Judged.{journal_of}
 
 -- all lines were taken
-pub whole_played : (stock left : Stock) (start : Region) (texts : List (List ℕ)) (p : PlayerState) (count : ℕ) (e : Ending) → IsReady p → IsTaken stock left start texts [] p count →
-    e ≡ ending 0 (run_text p.outcomes (changes_of p.seat.region.past) (region_after p.seat.region.start p.seat.region.past)) → IsPlayed stock start texts e
-whole_played stock left start texts p count e ready taken text =
+pub whole_played : (stock left : Stock) (start : Region) (texts : List (List ℕ)) (p : PlayState) (count : ℕ) (e : Ending) → IsSound p.world → IsTaken stock left start texts [] p count →
+    e ≡ ending 0 (p.text ++ (changes_text (changes_of p.world.region.past) ++ region_text (region_after p.world.region.start p.world.region.past))) → IsPlayed stock start texts e
+whole_played stock left start texts p count e sound taken text =
     let same : taken.taken.front ≡ texts = sym (append-nil taken.taken.front) ∙ sym taken.taken.are in
     let at = taken.at in
     record {
       parts = taken.parts;
       within = subst IsWithin same taken.taken.within;
       lines = subst (λ x. AreLines x (lines_of taken.parts)) same taken.taken.lines;
-      journal = journal_of stock left start taken.parts p ready at;
-      text = text
-          ∙ ap (λ x. ending 0 (run_text x (changes_of p.seat.region.past) (region_after p.seat.region.start p.seat.region.past))) at.outcomes
-          ∙ ap (λ x. ending 0 (run_text (outcomes_of taken.parts) (changes_of x) (region_after p.seat.region.start x))) at.past
-          ∙ ap (λ x. ending 0 (run_text (outcomes_of taken.parts) (changes_of (past_of taken.parts)) (region_after x (past_of taken.parts)))) at.start_is;
+      journal = journal_of stock left start taken.parts p sound at;
+      text = text ∙ (λ i. ending 0 (at.text i ++ (changes_text (changes_of (at.past i)) ++ region_text (region_after (at.start_is i) (at.past i)))));
     }
 
 -- a line ended the play
@@ -78,9 +76,8 @@ play_of_status stock left now rose r e = go (shown_if_accepted r)
     go (Ok (Damaged d)) h = with_status e 17 (codes "not yet\n") refl h
 
 -- what was appended piece by piece
-pub texts_join : (a b c d outcomes changes region : List ℕ) → a ≡ [] → b ≡ a ++ outcomes → c ≡ b ++ changes → d ≡ c ++ region → d ≡ outcomes ++ (changes ++ region)
-texts_join a b c d outcomes changes region e0 e1 e2 e3 =
-    e3 ∙ ap (λ x. x ++ region) (e2 ∙ ap (λ x. x ++ changes) (e1 ∙ ap (λ x. x ++ outcomes) e0)) ∙ append_assoc outcomes changes region
+pub texts_join : (a b c changes region : List ℕ) → b ≡ a ++ changes → c ≡ b ++ region → c ≡ a ++ (changes ++ region)
+texts_join a b c changes region e1 e2 = e2 ∙ ap (λ x. x ++ region) e1 ∙ append_assoc a changes region
 
 -- what shows anything is accepted
 pub accepted_shown : (r : Region) (s : Shown) → shown_if_accepted r ≡ Ok s → IsAccepted r

@@ -1,6 +1,7 @@
 -- A call that runs on was asked for few steps.
-use Rattle.std.proofs.Common.{◌≡◌, ℕ, ◌+◌, ◌*◌, ◌<◌, ◌≤◌, Bool, true, false, List, ◌++◌, sym, ap, ◌∙◌, arith, subst}
-use Rattle.std.specs.Prelude.{Option, Some, None, nat_lt, option_map, if◌then◌else◌}
+use Rattle.std.proofs.Common.{◌≡◌, ◌≢◌, ℕ, ◌+◌, ◌-◌, ◌*◌, ◌<◌, ◌≤◌, ◌⊎◌, Bool, true, false, List, ◌++◌, length, refl, sym, ap, ◌∙◌, inl, inr, arith, subst, eq-eqb, ne_eqb}
+use Rattle.std.proofs.lemmas.Bool.{cases_lt}
+use Rattle.std.specs.Prelude.{Option, Some, None, nat_lt, option_map, slice_get, if◌then◌else◌}
 use Rattle.opener.specs.Begins.{Begins}
 use Rattle.opener.specs.Bound.{next_growth, steps_at, steps_left}
 use Rattle.opener.specs.Plans.{events_in}
@@ -13,17 +14,17 @@ use Rattle.opener.specs.declared.work.Work.{Work}
 use Rattle.opener.specs.declared.work.Work.TheVariants.{Idle, Ended, Runs}
 use Rattle.change_log.specs.declared.call.Call.{Call as Asked}
 use Rattle.region_words.specs.Lawful.{Lawful}
-use Rattle.region_words.specs.Local.{Seated}
 use Rattle.region_words.specs.Past.{region_after}
 use Rattle.region_words.specs.Region.{Region, file_size}
 use Rattle.region_words.specs.declared.event.Event.{Event}
 use Rattle.region_words.proofs.StaysFirm.{file_grows}
 use Rattle.script_lang.specs.declared.line.Line.TheVariants.{Step as StepLine}
 use Rattle.script_lang.specs.declared.outcome.Outcome.{Outcome}
+use Rattle.script_lang.specs.declared.outcome.Outcome.TheVariants.{Answered, Blocked, Stopped}
 use Rattle.mmkv_top.specs.Parts.{Part, Running, asked_after, asked_of, going_on, past_of, running}
 use Rattle.mmkv_top.specs.Play.{IsInTime}
-use Rattle.mmkv_top.specs.Played.{Stock}
-use Rattle.mmkv_top.specs.Player.{CameTo, FollowsWork, IsBounded, IsOpened, IsOutcomeAt, LeavesFewer, OpenerAt}
+use Rattle.mmkv_top.specs.Progress.{CameTo, FollowsWork, IsBounded, IsNobody, IsOpened, IsOutcomeAt, IsUnopened, LeavesFewer}
+use Rattle.mmkv_top.proofs.NoPlaces.{opener_there}
 
 -- at each stage a step is left
 some_left : (words : ℕ) (at : Stage) → 1 ≤ steps_at words at
@@ -72,15 +73,42 @@ bounded_anew (Runs c at) (Runs c' at') r r' asked before now follows goes grows 
 over_bounded : (work : Work) (asked size : ℕ) → work ≡ Idle → IsBounded work asked size
 over_bounded work asked size idle = subst (λ w. IsBounded w asked size) (sym idle) tt
 
+-- the steps asked of an opener after a line of its own
+own_after : Option Outcome → ℕ → ℕ → ℕ
+own_after (Some (Blocked w holder)) asked count = 0
+own_after _ asked count = asked + count
+
+asked_own : (who count : ℕ) (outcome : Option Outcome) (asked : ℕ) → asked_after (Some (StepLine who count)) outcome who asked ≡ own_after outcome asked count
+unfolding own_after
+asked_own who count None asked = ap (λ b. if b then asked + count else asked) (eq-eqb who who refl)
+asked_own who count (Some (Answered a)) asked = ap (λ b. if b then asked + count else asked) (eq-eqb who who refl)
+asked_own who count (Some (Stopped w why)) asked = ap (λ b. if b then asked + count else asked) (eq-eqb who who refl)
+asked_own who count (Some (Blocked w holder)) asked = ap (λ b. if b then 0 else asked) (eq-eqb who who refl)
+
+-- and after one of another
+pub asked_other : (maker who count : ℕ) (outcome : Option Outcome) (asked : ℕ) → maker ≢ who → asked_after (Some (StepLine maker count)) outcome who asked ≡ asked
+asked_other maker who count None asked n = ap (λ b. if b then asked + count else asked) (ne_eqb maker who n)
+asked_other maker who count (Some (Answered a)) asked n = ap (λ b. if b then asked + count else asked) (ne_eqb maker who n)
+asked_other maker who count (Some (Stopped w why)) asked n = ap (λ b. if b then asked + count else asked) (ne_eqb maker who n)
+asked_other maker who count (Some (Blocked w holder)) asked n = ap (λ b. if b then 0 else asked) (ne_eqb maker who n)
+
+-- in a file that has grown meanwhile
+pub bounded_later : (work : Work) (asked before now : ℕ) → before ≤ now → IsBounded work asked before → IsBounded work asked now
+bounded_later Idle asked before now grows bounded = tt
+bounded_later Ended asked before now grows bounded = tt
+bounded_later (Runs c at) asked before now grows bounded = λ words fits. bounded words (omega (arith, grows, fits))
+
 -- after a line of steps
-pub line_bounded : (start : Region) (past made : List Event) (held asked count : ℕ) (r : Option Running) (work : Work) (last : Step) (o : OpenerState) (outcome : Option Outcome) →
-    FollowsWork work r → Lawful start (made ++ past) → CameTo (made ++ past) held (option_map (going_on made) r) last o →
-    IsBounded work asked (file_size (region_after start past)) → LeavesFewer last work o.work count (file_size (region_after start (made ++ past))) → IsOutcomeAt last outcome →
-    IsBounded o.work (asked_after (Some (StepLine 1 count)) outcome 1 asked) (file_size (region_after start (made ++ past)))
-line_bounded start past made held asked count r work last o outcome follows lawful came bounded fewer at = go r last outcome follows came fewer at
+pub line_bounded : (who : ℕ) (start : Region) (past made : List Event) (held asked count : ℕ) (r : Option Running) (work : Work) (last : Step) (o : OpenerState) (outcome : Option Outcome) →
+    FollowsWork work r → Lawful start (made ++ past) → CameTo who (made ++ past) held (option_map (going_on made) r) last o →
+    IsBounded work asked (file_size (region_after start past)) → LeavesFewer last work o.work count (file_size (region_after start (made ++ past))) → IsOutcomeAt who last outcome →
+    IsBounded o.work (asked_after (Some (StepLine who count)) outcome who asked) (file_size (region_after start (made ++ past)))
+unfolding own_after
+line_bounded who start past made held asked count r work last o outcome follows lawful came bounded fewer at =
+    subst (λ n. IsBounded o.work n (file_size (region_after start (made ++ past)))) (sym (asked_own who count outcome asked)) (go r last outcome follows came fewer at)
   where
     Is : Option Outcome → Type 0
-    Is outcome = IsBounded o.work (asked_after (Some (StepLine 1 count)) outcome 1 asked) (file_size (region_after start (made ++ past)))
+    Is outcome = IsBounded o.work (own_after outcome asked count) (file_size (region_after start (made ++ past)))
 
     grows : file_size (region_after start past) ≤ file_size (region_after start (made ++ past))
     grows = file_grows start made past lawful
@@ -88,8 +116,8 @@ line_bounded start past made held asked count r work last o outcome follows lawf
     size : ℕ
     size = file_size (region_after start (made ++ past))
 
-    go : (r : Option Running) (last : Step) (outcome : Option Outcome) → FollowsWork work r → CameTo (made ++ past) held (option_map (going_on made) r) last o →
-        LeavesFewer last work o.work count size → IsOutcomeAt last outcome → Is outcome
+    go : (r : Option Running) (last : Step) (outcome : Option Outcome) → FollowsWork work r → CameTo who (made ++ past) held (option_map (going_on made) r) last o →
+        LeavesFewer last work o.work count size → IsOutcomeAt who last outcome → Is outcome
     go None step.Going outcome follows came fewer at = subst Is (sym at) (idle_bounded o.work (asked + count) size came.0)
     go (Some r) step.Going outcome follows came fewer at =
         subst Is (sym at) (bounded_on work o.work r (going_on made r) asked count (file_size (region_after start past)) size follows came.0 grows bounded fewer)
@@ -112,15 +140,28 @@ begin_bounded asked now n size old new begins bound =
     (λ words fits. omega (arith, bound words, ap (λ (x : OpenerState). steps_left words x.work) begins.work))
 
 -- the call that runs was asked for few steps
-pub opened_in_time : (start : Region) (parts : List Part) (o : OpenerState) (s : Seated) → IsOpened start parts o s → IsInTime start parts
-opened_in_time start parts o s op c words runs fits = go o.work (subst (FollowsWork o.work) runs op.follows) op.bounded
+opened_in_time : (start : Region) (parts : List Part) (who : ℕ) (o : OpenerState) → IsOpened start parts who o → (c : Running) (words : ℕ) → running who parts ≡ Some c →
+    file_size (region_after start (past_of parts)) ≤ 4 * words → asked_of who parts < 6 * words + 100
+opened_in_time start parts who o op c words runs fits = go o.work (subst (FollowsWork o.work) runs op.follows) op.bounded
   where
-    go : (work : Work) → FollowsWork work (Some c) → IsBounded work (asked_of 1 parts) (file_size (region_after start (past_of parts))) → asked_of 1 parts < 6 * words + 100
+    go : (work : Work) → FollowsWork work (Some c) → IsBounded work (asked_of who parts) (file_size (region_after start (past_of parts))) → asked_of who parts < 6 * words + 100
     go Idle follows bounded = absurd follows
     go Ended follows bounded = absurd follows
     go (Runs running at) follows bounded = omega (arith, bounded words fits, some_left words at)
 
--- and so it was where no opener is there
-pub in_time_at : (stock left : Stock) (start : Region) (parts : List Part) (s : Seated) (o : Option OpenerState) → OpenerAt stock left start parts s o → IsInTime start parts
-in_time_at stock left start parts s None un c words runs fits = let both : None ≡ Some c = sym un.idle ∙ runs in absurd cc
-in_time_at stock left start parts s (Some o) op c words runs fits = opened_in_time start parts o s op c words runs fits
+-- whoever runs it
+pub in_time : (start : Region) (parts : List Part) (openers : List OpenerState) → ((i : ℕ) (o : OpenerState) → slice_get openers i ≡ Some o → IsOpened start parts (i + 1) o) →
+    ((who : ℕ) → IsNobody (length openers) who → IsUnopened parts who) → IsInTime start parts
+in_time start parts openers each unopened who c words runs fits = go (cases_lt 0 who) (cases_lt (length openers) who)
+  where
+    nobody : IsNobody (length openers) who → asked_of who parts < 6 * words + 100
+    nobody is = let both : None ≡ Some c = sym (unopened who is).idle ∙ runs in absurd cc
+
+    go : (0 < who) ⊎ (who ≤ 0) → (length openers < who) ⊎ (who ≤ length openers) → asked_of who parts < 6 * words + 100
+    go (inr none) far = nobody (inl (omega (arith, none)))
+    go (inl some) (inl far) = nobody (inr far)
+    go (inl some) (inr near) =
+        let i = who - 1 in
+        let is : i + 1 ≡ who = omega (arith, some) in
+        let at = opener_there openers i (omega (arith, some, near)) in
+        opened_in_time start parts who at.0 (subst (λ w. IsOpened start parts w at.0) is (each i at.0 at.1)) c words runs fits

@@ -1,12 +1,14 @@
--- The places that are kept for one opener, and a call that found none.
-use Rattle.std.proofs.Common.{◌≡◌, ◌≢◌, ℕ, zero, suc, ◌+◌, ◌≤◌, Bool, true, false, List, length, refl, sym, ap, ◌∙◌, inl, inr, arith, subst}
+-- The places that are kept for the openers, and a call that found none.
+use Rattle.std.proofs.Common.{◌≡◌, ◌≢◌, ℕ, zero, suc, ◌+◌, ◌-◌, ◌<◌, ◌≤◌, ◌⊎◌, Bool, true, false, List, [], ◌∷◌, length, refl, sym, ap, ◌∙◌, inl, inr, arith, subst}
 use Rattle.std.proofs.lemmas.Bool.Decides.{nat_tests}
-use Rattle.std.specs.Prelude.{Option, Some, None, not, nat_le, ◌&&◌, if◌then◌else◌}
+use Rattle.std.proofs.lemmas.Bool.{cases_lt}
+use Rattle.std.specs.Option.{option_map_or}
+use Rattle.std.specs.Prelude.{Option, Some, None, IsTrue, not, nat_le, slice_get, ◌&&◌, ◌==◌, if◌then◌else◌}
 use Rattle.change_log.specs.declared.call.Call.{Call as Asked}
-use Rattle.lock_rules.specs.Locks.{MayTake}
+use Rattle.lock_rules.specs.Locks.{Locks, MayTake, holds_exclusive}
 use Rattle.lock_rules.specs.declared.table.LockKind.{LockKind}
-use Rattle.lock_rules.specs.declared.table.LockKind.TheVariants.{Exclusive}
-use Rattle.opener.specs.Opener.{HasReason, HasStopped, IsAt, Owes, image_at, is_storing, lock_in, stop_found}
+use Rattle.lock_rules.specs.declared.table.LockKind.TheVariants.{Exclusive, Shared}
+use Rattle.opener.specs.Opener.{HasReason, HasStopped, IsAt, Owes, Tied, image_at, is_storing, lock_in, stop_found}
 use Rattle.opener.specs.Plans.{IsPlanOf, events_in}
 use Rattle.opener.specs.State.{OpenerState}
 use Rattle.opener.specs.declared.calls.Stop.{Stop}
@@ -18,92 +20,167 @@ use Rattle.opener.specs.declared.work.Stage.TheVariants as stage
 use Rattle.opener.specs.declared.work.Work.{Work}
 use Rattle.opener.specs.declared.work.Work.TheVariants.{Ended, Idle, Runs}
 use Rattle.region_words.specs.Apart.{Apart}
-use Rattle.region_words.specs.Local.{Seated, seat_state}
+use Rattle.region_words.specs.Local.{Local, Seated, account_of, kept_in, reserved_in, seat_state}
 use Rattle.region_words.specs.Past.{has_died, locks_after}
 use Rattle.region_words.specs.Region.{Region, IsAccepted}
-use Rattle.region_words.specs.Share.{Agrees, Goes, IsFull, ShareState, lock_of, most_events, places_for, total, unlock_place, unmoved}
+use Rattle.region_words.specs.Share.{Goes, IsFull, ShareState, lock_of, most_events, places_for, total, unlock_place, unmoved}
 use Rattle.region_words.specs.declared.event.Event.{Event}
-use Rattle.region_words.proofs.Totals.{total_none, total_same}
+use Rattle.region_words.proofs.LockOf.{exclusive_is}
+use Rattle.world.specs.World.{IsSound, WorldState, share_of}
 use Rattle.mmkv_top.specs.Parts.{Part, Running, past_of, strategies}
-use Rattle.mmkv_top.specs.Played.{AsksFor, IsTooFull, Stock, places_after}
-use Rattle.mmkv_top.specs.Player.{IsOnly, IsOpened, OpenerAt}
+use Rattle.mmkv_top.specs.Played.{AsksFor, IsTooFull, places_after}
+use Rattle.mmkv_top.specs.Progress.{IsOpenTo}
 
-abbrev first_only : ℕ → Bool
-first_only w = nat_le 1 w && nat_le w 1
+-- Who has places reserved holds the lock exclusive.
+reserving : (o : OpenerState) (work : Work) (s : ShareState) → 0 < s.reserved s.who → Owes o work s → IsAt o work → lock_in o.holds work ≡ Some Exclusive
+reserving o (Runs c (stage.Store plan)) s some owes at = at.2.0
+reserving o Idle s some owes at = absurd (omega (arith, some, owes))
+reserving o Ended s some owes at = absurd (omega (arith, some, owes))
+reserving o (Runs c stage.PeekChecksum) s some owes at = absurd (omega (arith, some, owes))
+reserving o (Runs c (stage.PeekSequence peek)) s some owes at = absurd (omega (arith, some, owes))
+reserving o (Runs c stage.LockShared) s some owes at = absurd (omega (arith, some, owes))
+reserving o (Runs c stage.LockExclusive) s some owes at = absurd (omega (arith, some, owes))
+reserving o (Runs c (stage.Load loading)) s some owes at = absurd (omega (arith, some, owes))
+reserving o (Runs c stage.Size) s some owes at = absurd (omega (arith, some, owes))
+reserving o (Runs c (stage.Reserve plan)) s some owes at = absurd (omega (arith, some, owes))
+reserving o (Runs c (stage.Unlock how)) s some owes at = absurd (omega (arith, some, owes))
+reserving o (Runs c stage.Hold) s some owes at = absurd (omega (arith, some, owes))
+reserving o (Runs c stage.Release) s some owes at = absurd (omega (arith, some, owes))
+
+-- the opener at a place
+pub opener_there : (openers : List OpenerState) (i : ℕ) → i < length openers → (o : OpenerState) × (slice_get openers i ≡ Some o)
+opener_there [] i lt = absurd (omega (arith, lt))
+opener_there (o ∷ openers) zero lt = (o, refl)
+opener_there (o ∷ openers) (suc i) lt = opener_there openers i (omega (arith, lt))
+
+pub holder : (w : WorldState) → IsSound w → (who : ℕ) → 1 ≤ who → who ≤ length w.openers → 0 < (share_of w.region who).reserved who → lock_of (locks_after w.region.past) who ≡ Some Exclusive
+holder w sound who least most some =
+    let i = who - 1 in
+    let at = opener_there w.openers i (omega (arith, least, most)) in
+    let is : i + 1 ≡ who = omega (arith, least) in
+    let tied : Tied at.0 (share_of w.region who) = subst (λ v. Tied at.0 (share_of w.region v)) is (sound.each i at.0 at.1).tied in
+    tied.holds ∙ reserving at.0 at.0.work (share_of w.region who) some tied.owes tied.at
+
+free_of : (locks : Locks) (who : ℕ) (kind : LockKind) → MayTake locks who kind → locks.exclusive ≡ None
+free_of locks who Shared may = may.1
+free_of locks who Exclusive may = may.1
+
+no_holder : (locks : Locks) (w : ℕ) → locks.exclusive ≡ None → IsTrue (holds_exclusive locks w) → ⊥
+no_holder locks w none is = let never : holds_exclusive locks w ≡ false = ap (λ o. option_map_or (λ h. h == w) o false) none in let both : true ≡ false = sym is ∙ never in absurd cc
+
+same_number : (a b : ℕ) → (a == b) ≡ true → a ≡ b
+same_number a b t = grind (arith, nat_tests)
+
+one_holder : (locks : Locks) (v w : ℕ) → IsTrue (holds_exclusive locks v) → IsTrue (holds_exclusive locks w) → v ≡ w
+one_holder locks v w = go locks.exclusive
+  where
+    go : (e : Option ℕ) → IsTrue (option_map_or (λ h. h == v) e false) → IsTrue (option_map_or (λ h. h == w) e false) → v ≡ w
+    go None a b = absurd cc
+    go (Some h) a b = sym (same_number h v a) ∙ same_number h w b
+
+-- so where a call asks for places nobody else has any
+pub alone_asks : (start : Region) (who asked : ℕ) (c : Running) (past : List Event) → AsksFor start who c past asked → (w : ℕ) → w ≢ who → lock_of (locks_after past) w ≡ Some Exclusive → ⊥
+alone_asks start who asked c past (inl (two, (kind, may))) w apart held = no_holder (locks_after past) w (free_of (locks_after past) who kind may) (exclusive_is (locks_after past) w held)
+alone_asks start who asked c past (inr (mine, plan)) w apart held = apart (one_holder (locks_after past) w who (exclusive_is (locks_after past) w held) (exclusive_is (locks_after past) who mine))
+
+abbrev first : ℕ → ℕ → Bool
+first opened w = nat_le 1 w && nat_le w opened
 
 abbrev no_places : ℕ → ℕ
 no_places w = 0
 
-the_first : (w : ℕ) → first_only w ≡ true → w ≡ 1
-the_first w e = grind (arith, nat_tests)
+-- the places that one opener has reserved
+abbrev extra_for : (ℕ → Bool) → (ℕ → ℕ) → List Event → ℕ → ℕ
+extra_for admitted reserved past w = if admitted w && not (has_died past w) then reserved w else 0
 
-same_places : (a b d : Bool) (u x : ℕ) → a ≡ b → (b ≡ true → x ≡ 0) → (if b && not d then 1 + u + 0 else 0) ≡ (if a && not d then 1 + u + x else 0)
-same_places true true true u x e none = refl
-same_places true true false u x e none = omega (arith, none refl)
-same_places true false d u x e none = absurd cc
-same_places false true d u x e none = absurd cc
-same_places false false d u x e none = refl
-
-few_places : (a b d : Bool) (u x : ℕ) → a ≡ b → (if b && not d then 1 + u + 0 else 0) ≤ (if a && not d then 1 + u + x else 0)
-few_places true true true u x e = omega arith
-few_places true true false u x e = omega arith
-few_places true false d u x e = absurd cc
-few_places false true d u x e = absurd cc
-few_places false false d u x e = omega arith
-
-total_below : (f g : ℕ → ℕ) (n : ℕ) → ((w : ℕ) → f w ≤ g w) → total f n ≤ total g n
-unfolding total
-total_below f g zero below = omega arith
-total_below f g (suc n) below = omega (arith, total_below f g n below, below (suc n))
-
--- where nothing is reserved the places that are kept are those for the death and the unlock of opener 1
-kept_is : (s : Seated) (start : Region) (past : List Event) → IsOnly s → Agrees (seat_state s) (record { start = start; past = past }) → (seat_state s).reserved 1 ≡ 0 →
-    (seat_state s).kept ≡ places_after 1 past
-kept_is s start past only agrees none =
-    agrees.kept refl
-    ∙ sym (total_same (places_for (seat_state s).admitted (seat_state s).reserved past) (places_for first_only no_places past) 64
-    (λ w lo hi. same_places ((seat_state s).admitted w) (first_only w) (has_died past w) (unlock_place (lock_of (locks_after past) w)) ((seat_state s).reserved w) (only w)
-    (λ first. ap (seat_state s).reserved (the_first w first) ∙ none)))
-
--- and never more
-kept_least : (s : Seated) (start : Region) (past : List Event) → IsOnly s → Agrees (seat_state s) (record { start = start; past = past }) → places_after 1 past ≤ (seat_state s).kept
-kept_least s start past only agrees =
-    let below = total_below (places_for first_only no_places past) (places_for (seat_state s).admitted (seat_state s).reserved past) 64
-    (λ w. few_places ((seat_state s).admitted w) (first_only w) (has_died past w) (unlock_place (lock_of (locks_after past) w)) ((seat_state s).reserved w) (only w)) in
-    omega (arith, below, agrees.kept refl)
-
--- so there is room for the events and the places kept
-pub roomy : (s : Seated) → IsOnly s → Agrees (seat_state s) (record { start = s.region.start; past = s.region.past }) → length s.region.past + places_after 1 s.region.past ≤ most_events
-roomy s only agrees = omega (arith, kept_least s s.region.start s.region.past only agrees, agrees.few refl)
-
-pub too_full : (s : Seated) (asked : ℕ) → IsOnly s → Agrees (seat_state s) (record { start = s.region.start; past = s.region.past }) → (seat_state s).reserved 1 ≡ 0 → IsFull asked (seat_state s) →
-    IsTooFull 1 s.region.past asked
-too_full s asked only agrees none full = omega (arith, full, kept_is s s.region.start s.region.past only agrees none)
-
--- no place is kept where no opener is let in
-none_kept : (past : List Event) → places_after 0 past ≡ 0
-none_kept past = total_none (places_for (λ w. nat_le 1 w && nat_le w 0) no_places past) 64 (λ w. go w (nat_le 1 w && nat_le w 0) (nobody w))
+is_first : (opened w : ℕ) (b : Bool) → 1 ≤ w → b ≡ nat_le w opened → b ≡ first opened w
+is_first opened w b least is = is ∙ go (nat_le 1 w) (yes 1 w least)
   where
-    nobody : (w : ℕ) → (nat_le 1 w && nat_le w 0) ≡ false
-    nobody w = grind (arith, nat_tests)
+    yes : (a b : ℕ) → a ≤ b → nat_le a b ≡ true
+    yes a b le = grind (arith, nat_tests)
 
-    go : (w : ℕ) (b : Bool) → b ≡ false → (if b && not (has_died past w) then 1 + unlock_place (lock_of (locks_after past) w) + 0 else 0) ≡ 0
-    go w false e = refl
-    go w true e = absurd cc
+    go : (t : Bool) → t ≡ true → nat_le w opened ≡ (t && nat_le w opened)
+    go true e = refl
+    go false e = absurd cc
+
+one_place : (a b d : Bool) (u x : ℕ) → a ≡ b → (if a && not d then 1 + u + x else 0) ≡ (if b && not d then 1 + u + 0 else 0) + (if a && not d then x else 0)
+one_place true true true u x e = refl
+one_place true true false u x e = omega arith
+one_place true false d u x e = absurd cc
+one_place false true d u x e = absurd cc
+one_place false false d u x e = refl
+
+total_split : (f g h : ℕ → ℕ) (n : ℕ) → ((w : ℕ) → 1 ≤ w → f w ≡ g w + h w) → total f n ≡ total g n + total h n
+unfolding total
+total_split f g h zero parts = refl
+total_split f g h (suc n) parts = omega (arith, total_split f g h n parts, parts (suc n) (omega arith))
+
+total_some : (f : ℕ → ℕ) (n : ℕ) → 0 < total f n → (w : ℕ) × (1 ≤ w) × (w ≤ n) × (0 < f w)
+unfolding total
+total_some f zero some = absurd (omega (arith, some))
+total_some f (suc n) some = go (λ some. total_some f n some) some (cases_lt 0 (f (suc n)))
+  where
+    go : (0 < total f n → (w : ℕ) × (1 ≤ w) × (w ≤ n) × (0 < f w)) → 0 < total f n + f (suc n) → (0 < f (suc n)) ⊎ (f (suc n) ≤ 0) → (w : ℕ) × (1 ≤ w) × (w ≤ suc n) × (0 < f w)
+    go rest some (inl here) = (suc n, omega arith, omega arith, here)
+    go rest some (inr none) = let before = rest (omega (arith, some, none)) in (before.0, before.1, omega (arith, before.2), before.3)
+
+-- The places that are kept are those for deaths and unlocks, and those that are reserved.
+module _ (w : WorldState) (sound : IsSound w) (opened : ℕ) (open_to : IsOpenTo opened w.region) (all : opened ≡ length w.openers) where
+  abbrev admitted : ℕ → Bool
+  admitted v = (account_of w.region.accounts v).admitted
+
+  abbrev extra : ℕ
+  extra = total (extra_for admitted (reserved_in w.region) w.region.past) 64
+
+  kept_parts : kept_in w.region.accounts ≡ places_after opened w.region.past + extra
+  kept_parts =
+      sound.kept
+      ∙ total_split (places_for admitted (reserved_in w.region) w.region.past) (places_for (first opened) no_places w.region.past) (extra_for admitted (reserved_in w.region) w.region.past) 64
+      (λ v least. one_place (admitted v) (first opened v) (has_died w.region.past v) (unlock_place (lock_of (locks_after w.region.past) v)) (reserved_in w.region v) (is_first opened v (admitted v) least (open_to v least)))
+
+  -- whoever has any reserved
+  pub record Reserver : Type 0 where
+    pub number : ℕ
+    pub least : 1 ≤ number
+    pub most : number ≤ opened
+    pub some : 0 < reserved_in w.region number
+    pub holds : lock_of (locks_after w.region.past) number ≡ Some Exclusive
+
+  reserver : 0 < extra → Reserver
+  reserver some =
+      let v = total_some (extra_for admitted (reserved_in w.region) w.region.past) 64 some in
+      let has = go (admitted v.0) (has_died w.region.past v.0) (reserved_in w.region v.0) v.3 in
+      let most = within v.0 opened (sym (open_to v.0 v.1) ∙ has.0) in
+      record { number = v.0; least = v.1; most = most; some = has.1; holds = holder w sound v.0 v.1 (omega (arith, all, most)) has.1 }
+    where
+      go : (a d : Bool) (x : ℕ) → 0 < (if a && not d then x else 0) → (a ≡ true) × (0 < x)
+      go true false x some = (refl, some)
+      go true true x some = absurd (omega (arith, some))
+      go false d x some = absurd (omega (arith, some))
+
+      within : (v n : ℕ) → nat_le v n ≡ true → v ≤ n
+      within v n t = grind (arith, nat_tests)
+
+  -- there is room for the events and the places kept
+  pub roomy : length w.region.past + places_after opened w.region.past ≤ most_events
+  roomy = omega (arith, kept_parts, sound.roomy)
+
+  -- where nobody has any reserved
+  pub too_full : (asked : ℕ) → ((v : Reserver) → ⊥) → most_events < length w.region.past + kept_in w.region.accounts + asked → IsTooFull opened w.region.past asked
+  too_full asked nobody full = omega (arith, kept_parts, full, none (cases_lt 0 extra))
+    where
+      none : (0 < extra) ⊎ (extra ≤ 0) → extra ≡ 0
+      none (inl some) = absurd (nobody (reserver some))
+      none (inr zeros) = omega (arith, zeros)
+
+  -- one more opener has no place
+  pub no_place : most_events < length w.region.past + kept_in w.region.accounts + 1 →
+      (reserved : ℕ) × (0 < reserved → (v : ℕ) × (lock_of (locks_after w.region.past) v ≡ Some Exclusive)) × IsTooFull opened w.region.past (reserved + 1)
+  no_place full = (extra, (λ some. let r = reserver some in (r.number, r.holds)), omega (arith, kept_parts, full))
 
 -- after the lines there is room
 abbrev HasRoom : List Part → Type 0
 HasRoom parts = length (past_of parts) + places_after (length (strategies parts)) (past_of parts) ≤ most_events
-
-pub room_of : (start : Region) (parts : List Part) (o : OpenerState) (s : Seated) → s.region.past ≡ past_of parts → IsOpened start parts o s → HasRoom parts
-room_of start parts o s past op =
-    subst (λ n. length (past_of parts) + places_after n (past_of parts) ≤ most_events) (sym op.one)
-    (subst (λ p. length p + places_after 1 p ≤ most_events) past (roomy s op.only op.tied.told.agrees))
-
-pub room_at : (stock left : Stock) (start : Region) (parts : List Part) (s : Seated) (o : Option OpenerState) → s.region.past ≡ past_of parts → OpenerAt stock left start parts s o → HasRoom parts
-room_at stock left start parts s None past un =
-    subst (λ n. length (past_of parts) + places_after n (past_of parts) ≤ most_events) (sym (ap length un.none)) (omega (arith, ap length un.past, none_kept (past_of parts)))
-room_at stock left start parts s (Some o) past op = room_of start parts o s past op
 
 -- where a stop is found, no stores are under way, and nothing is reserved
 pub at_stop : (o : OpenerState) (work : Work) (s : ShareState) (why : Stop) → stop_found work ≡ Some why → (is_storing work ≡ false) × (Owes o work s → s.reserved s.who ≡ 0)
@@ -123,21 +200,21 @@ at_stop o (Runs c stage.Hold) s why e = absurd cc
 at_stop o (Runs c stage.Release) s why e = absurd cc
 
 -- the call found no places: it asked for a lock that it may take, or for the events of its rows
-pub record FoundNone (r : Running) (s t : Seated) : Type 0 where
+pub record FoundNone (who : ℕ) (r : Running) (s t : Seated) : Type 0 where
   pub stays : Goes (unmoved (seat_state s)) (seat_state s) (seat_state t)
   pub asked : ℕ
-  pub asks : AsksFor t.region.start 1 r t.region.past asked
+  pub asks : AsksFor t.region.start who r t.region.past asked
   pub full : IsFull asked (seat_state t)
 
-for_lock : (c : Call) (r : Running) (s t : Seated) → t.who ≡ 1 → (kind : LockKind) → Goes (unmoved (seat_state s)) (seat_state s) (seat_state t) → IsFull 2 (seat_state t) →
-    MayTake (locks_after t.region.past) t.who kind → FoundNone r s t
-for_lock c r s t one kind goes full free =
+for_lock : (who : ℕ) (c : Call) (r : Running) (s t : Seated) → t.who ≡ who → (kind : LockKind) → Goes (unmoved (seat_state s)) (seat_state s) (seat_state t) → IsFull 2 (seat_state t) →
+    MayTake (locks_after t.region.past) t.who kind → FoundNone who r s t
+for_lock who c r s t one kind goes full free =
     record { stays = goes; asked = 2; asks = inl (refl, (kind, subst (λ w. MayTake (locks_after t.region.past) w kind) one free)); full = full }
 
-pub found_none : (o : OpenerState) (c : Call) (at : Stage) (r : Running) (s t : Seated) → s.who ≡ 1 → t.who ≡ 1 → (seat_state s).holds ≡ lock_in o.holds (Runs c at) → IsAt o (Runs c at) →
-    c.call ≡ r.call → c.now ≡ r.now → HasReason (Runs c at) stop.JournalFull (seat_state s) (seat_state t) → FoundNone r s t
-found_none o c at r s t was one holds is call now (inl h) = for_lock c r s t one h.0 h.1.0 h.1.1 h.1.2
-found_none o c (stage.Reserve plan) r s t was one holds is call now (inr h) =
+pub found_none : (who : ℕ) (o : OpenerState) (c : Call) (at : Stage) (r : Running) (s t : Seated) → s.who ≡ who → t.who ≡ who → (seat_state s).holds ≡ lock_in o.holds (Runs c at) → IsAt o (Runs c at) →
+    c.call ≡ r.call → c.now ≡ r.now → HasReason (Runs c at) stop.JournalFull (seat_state s) (seat_state t) → FoundNone who r s t
+found_none who o c at r s t was one holds is call now (inl h) = for_lock who c r s t one h.0 h.1.0 h.1.1 h.1.2
+found_none who o c (stage.Reserve plan) r s t was one holds is call now (inr h) =
     record {
       stays = h.0.0;
       asked = events_in plan;
@@ -149,17 +226,17 @@ found_none o c (stage.Reserve plan) r s t was one holds is call now (inr h) =
     }
   where
     PlanFor : ℕ → Asked → ℕ → Type 0
-    PlanFor who asked moment = IsAccepted t.region.start → Apart t.region.start t.region.past → IsPlanOf who asked moment (image_at t.region.start t.region.past) plan
-found_none o c stage.PeekChecksum r s t was one holds is call now (inr never) = absurd never
-found_none o c (stage.PeekSequence peek) r s t was one holds is call now (inr never) = absurd never
-found_none o c stage.LockShared r s t was one holds is call now (inr never) = absurd never
-found_none o c stage.LockExclusive r s t was one holds is call now (inr never) = absurd never
-found_none o c (stage.Load loading) r s t was one holds is call now (inr never) = absurd never
-found_none o c stage.Size r s t was one holds is call now (inr never) = absurd never
-found_none o c (stage.Store plan) r s t was one holds is call now (inr never) = absurd never
-found_none o c (stage.Unlock how) r s t was one holds is call now (inr never) = absurd never
-found_none o c stage.Hold r s t was one holds is call now (inr never) = absurd never
-found_none o c stage.Release r s t was one holds is call now (inr never) = absurd never
+    PlanFor number asked moment = IsAccepted t.region.start → Apart t.region.start t.region.past → IsPlanOf number asked moment (image_at t.region.start t.region.past) plan
+found_none who o c stage.PeekChecksum r s t was one holds is call now (inr never) = absurd never
+found_none who o c (stage.PeekSequence peek) r s t was one holds is call now (inr never) = absurd never
+found_none who o c stage.LockShared r s t was one holds is call now (inr never) = absurd never
+found_none who o c stage.LockExclusive r s t was one holds is call now (inr never) = absurd never
+found_none who o c (stage.Load loading) r s t was one holds is call now (inr never) = absurd never
+found_none who o c stage.Size r s t was one holds is call now (inr never) = absurd never
+found_none who o c (stage.Store plan) r s t was one holds is call now (inr never) = absurd never
+found_none who o c (stage.Unlock how) r s t was one holds is call now (inr never) = absurd never
+found_none who o c stage.Hold r s t was one holds is call now (inr never) = absurd never
+found_none who o c stage.Release r s t was one holds is call now (inr never) = absurd never
 
 -- a step stops for want of places where it finds none, and not for what was found before
 pub reason_now : (found : Option Stop) (work : Work) (s t : ShareState) → found ≢ Some stop.JournalFull → HasStopped found work stop.JournalFull s t → HasReason work stop.JournalFull s t

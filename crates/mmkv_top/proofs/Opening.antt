@@ -1,226 +1,270 @@
--- The opener of a script is opened.
-use Rattle.std.proofs.Common.{◌≡◌, ◌≢◌, ◌⊎◌, ℕ, zero, suc, ◌<◌, Bool, true, false, List, [], ◌∷◌, ◌++◌, length, set, replicate, eqb, inl, inr, refl, sym, ap, ◌∙◌, arith, subst, append-nil, length-append}
+-- A line that opens an opener.
+use Rattle.std.proofs.Common.{◌≡◌, ◌≢◌, ℕ, zero, suc, ◌+◌, ◌-◌, ◌<◌, ◌≤◌, ◌⊎◌, Bool, true, false, not, ◌||◌, eqb, List, [], ◌∷◌, ◌++◌, length, set, refl, sym, ap, ◌∙◌, inl, inr, arith, subst, append-nil, length-append, replicate}
 use Rattle.std.proofs.lemmas.Bool.Decides.{eqb_tells, nat_tests}
-use Rattle.std.specs.Prelude.{Option, Some, None, Result, Ok, Err, IsErrAnd, is_some, nat_le, option_map, ◌&&◌, if◌then◌else◌}
+use Rattle.std.proofs.lemmas.List.{length-set}
+use Rattle.std.proofs.lemmas.List.Elements.{filter-append}
+use Rattle.std.specs.Prelude.{Option, Some, None, IfSome, IsErrAnd, IsTrue, Result, Ok, Err, filter, flat_map, nat_le, slice_get, ◌&&◌, ◌==◌, if◌then◌else◌}
+use Rattle.change_log.specs.declared.call.Answer.{Answer}
+use Rattle.change_log.specs.declared.call.Call.{Call as Asked}
+use Rattle.change_log.specs.Settled.{AreEndedBy}
 use Rattle.handlers.specs.Stock.{Draws}
+use Rattle.lock_rules.specs.declared.table.LockKind.TheVariants.{Exclusive}
 use Rattle.handlers.specs.declared.handler.Strategy.{Strategy}
 use Rattle.handlers.specs.declared.handler.Strategy.TheVariants.{Discard, Recover, Leave}
-use Rattle.opener.specs.Opener.{Tied}
+use Rattle.opener.specs.Begins.{Begins, call_refusal, refusal_at}
+use Rattle.opener.specs.Opener.{is_ended}
+use Rattle.opener.specs.Bound.{steps_left}
+use Rattle.opener.specs.Calls.{IsBuilt}
 use Rattle.opener.specs.State.{OpenerState}
+use Rattle.opener.specs.declared.calls.Stop.{Stop}
+use Rattle.opener.specs.declared.calls.Stop.TheVariants as stop
 use Rattle.opener.specs.declared.calls.Step.TheVariants as step
-use Rattle.opener.specs.declared.work.Work.TheVariants.{Idle}
-use Rattle.region_words.specs.Past.{region_after}
-use Rattle.region_words.specs.Region.{Region, IsAccepted, file_size}
-use Rattle.region_words.specs.Local.{Local, LacksPlaces, Seated, account_of, after_admission, kept_in, no_account, seat_state, lock_after, with_account}
+use Rattle.opener.specs.declared.work.Work.{Work}
+use Rattle.opener.specs.declared.work.Work.TheVariants.{Idle, Ended, Runs}
+use Rattle.region_words.specs.Local.{Local, account_of, after_admission, kept_in, no_account, with_account}
+use Rattle.region_words.specs.Past.{changes_of, has_died, locks_after, region_after}
+use Rattle.region_words.specs.Region.{Region, file_size}
+use Rattle.region_words.specs.Share.{lock_of, most_events}
 use Rattle.region_words.specs.declared.account.Account.{Account}
-use Rattle.region_words.specs.declared.places.AdmitStop.{AdmitStop}
-use Rattle.region_words.specs.declared.places.AdmitStop.TheVariants as admit
-use Rattle.region_words.proofs.Accounts.{other_account, own_account}
-use Rattle.region_words.proofs.Totals.{total_none}
-use Rattle.lock_rules.specs.Locks.{unlocked}
-use Rattle.lock_rules.specs.declared.table.LockKind.{LockKind}
-use Rattle.lock_rules.specs.declared.table.LockKind.TheVariants.{Shared}
-use Rattle.std.specs.FinSet as sets
-use Rattle.std.specs.List.{AllByRecursion}
-use Rattle.std.specs.Ordering.{nat_cmp}
 use Rattle.region_words.specs.declared.event.Event.{Event}
+use Rattle.region_words.proofs.Accounts.{other_account}
+use Rattle.script_lang.specs.Texts.{outcome_line}
 use Rattle.script_lang.specs.declared.line.Line.{Line}
-use Rattle.script_lang.specs.declared.line.Line.TheVariants.{Open}
-use Rattle.mmkv_top.specs.Halting.{of_admission}
-use Rattle.mmkv_top.specs.State.{PlayerState}
+use Rattle.script_lang.specs.declared.line.Line.TheVariants.{Begin, Open}
+use Rattle.world.specs.World.{IsSound, Lives, WorldState}
+use Rattle.world.specs.Moves.{Begun, BeginsCall, IsNotBegun, IsNotOpened, Opens, new_opener}
+use Rattle.world.specs.declared.stops.OpenStop.{OpenStop}
+use Rattle.world.specs.declared.stops.OpenStop.TheVariants as opening
+use Rattle.world.specs.declared.stops.WorldStop.{WorldStop}
+use Rattle.world.specs.declared.stops.WorldStop.TheVariants as begin
+use Rattle.world.proofs.Numbered.{pushed_is, set_elsewhere, set_is}
+use Rattle.mmkv_top.specs.Halting.{of_begin, of_opening}
+use Rattle.mmkv_top.specs.State.{PlayState, play_state}
 use Rattle.mmkv_top.specs.declared.halt.Halt.{Halt}
-use Rattle.mmkv_top.specs.Parts.{Part, past_of, outcomes_of, answers_in, strategies, asked_of, running, going_on}
-use Rattle.mmkv_top.specs.Played.{Stock, stocked, drawn}
-use Rattle.mmkv_top.specs.Player.{IsOpened, IsUnopened, OpenerAt, IsAt, IsReady, IsReadyFor, HasHalted, Takes, TakesOne, FollowsWork, FoundIs, FoundSaw, HasStored, IsOnly, IsUnfull, HasAnswered, IsBounded, AreSettledAt}
-use Rattle.mmkv_top.proofs.Answering.{nothing_answered}
-use Rattle.mmkv_top.proofs.LineEnds.{going_none}
-use Rattle.mmkv_top.proofs.InTime.{in_time_at, opened_in_time}
-use Rattle.mmkv_top.proofs.NoPlaces.{room_at, room_of}
-use Rattle.mmkv_top.proofs.Reasoning.{quiet_reasoned}
-use Rattle.mmkv_top.proofs.Settled.{nothing_to_settle}
+use Rattle.mmkv_top.specs.declared.halt.Halt.TheVariants as halt
+use Rattle.mmkv_top.specs.Parts.{Part, answers_in, asked_of, lives, opened_by, outcomes_of, past_of, running, Running, strategies}
+use Rattle.mmkv_top.specs.Play.{AreAnswered, CanTake}
+use Rattle.mmkv_top.specs.Played.{IsPartOf, IsTooFull, MetNoPlace, Stock, drawn, is_same, places_after, stocked}
+use Rattle.mmkv_top.specs.Progress.{AreEarlier, FollowsWork, FoundIs, FoundSaw, HasHalted, HasStored, IsAt, IsBounded, IsNobody, IsOpenTo, IsOpened, IsUnfull, IsUnopened, StopSaw, Takes, TakesOne}
+use Rattle.mmkv_top.proofs.Answering.{earlier_now, nothing_answered}
+use Rattle.mmkv_top.proofs.InTime.{begin_bounded, in_time}
+use Rattle.mmkv_top.proofs.NoPlaces.{no_place, opener_there, roomy}
+use Rattle.mmkv_top.proofs.Stepping.{follows_alive}
+use Rattle.mmkv_top.proofs.Others.{begin_asked, begin_other, opened_still, unopened_still}
+use Rattle.mmkv_top.proofs.Reasoning.{begin_found, begun_stopless, quiet_reasoned}
+use Rattle.mmkv_top.proofs.Storing.{begun_stored}
+use Rattle.mmkv_top.proofs.Beginning.{quiet_taken}
 
-abbrev new_opener : ℕ → OpenerState
-new_opener who = record { who = who; handled = true; image = None; holds = 0; work = Idle }
-
-pub none_of : {A : Type 0} (o : Option A) → is_some o ≡ false → o ≡ None
-none_of None h = refl
-none_of (Some x) h = absurd cc
-
-abbrev free_by : Bool → Option LockKind
-free_by b = if b then Some Shared else None
-
--- nobody was let in, and nothing has happened, where no opener was opened
-pub fresh_accounts : (p : PlayerState) → p.opener ≡ None → IsReady p → p.seat.region.accounts ≡ replicate 65 no_account
-fresh_accounts p none ready = (subst (λ o. IsReadyFor o p.seat) none ready.1).0
-
-pub fresh_past : (p : PlayerState) → p.opener ≡ None → IsReady p → p.seat.region.past ≡ []
-fresh_past p none ready = (subst (λ o. IsReadyFor o p.seat) none ready.1).1
-
-pub fresh_accepted : (p : PlayerState) → p.opener ≡ None → IsReady p → IsAccepted p.seat.region.start
-fresh_accepted p none ready = (subst (λ o. IsReadyFor o p.seat) none ready.1).2
-
-pub lock_free : (past : List Event) (who : ℕ) → past ≡ [] → lock_after past who ≡ None
-lock_free past who none = ap (λ x. lock_after x who) none ∙ go (sets.contains unlocked.shared who) (sets.contains-empty nat_cmp who)
-  where
-    go : (b : Bool) → b ≡ false → free_by b ≡ None
-    go false e = refl
-    go true e = absurd cc
-
-new_account : (n w : ℕ) → account_of (replicate n no_account) w ≡ no_account
-new_account zero w = refl
-new_account (suc n) zero = refl
-new_account (suc n) (suc w) = new_account n w
-
--- where no opener was let in, opener 1 is the only one once it is
-pub first_in : (s t : Seated) → s.region.accounts ≡ replicate 65 no_account →
-    t ≡ record s { region = with_account s.region 1 (after_admission (account_of s.region.accounts 1)) } → IsOnly t
-first_in s t fresh is w =
-    ap (λ (x : Seated). (account_of x.region.accounts w).admitted) is
-    ∙ ap (λ (accounts : List Account). (account_of (set accounts 1 (after_admission (account_of accounts 1))) w).admitted) fresh
-    ∙ go (eqb_tells w 1)
-  where
-    let_in : Account
-    let_in = after_admission (account_of (replicate 65 no_account) 1)
-
-    other : (w : ℕ) → w ≢ 1 → (nat_le 1 w && nat_le w 1) ≡ false
-    other w apart = grind (arith, nat_tests)
-
-    go : ((eqb w 1 ≡ true) × (w ≡ 1)) ⊎ ((eqb w 1 ≡ false) × (w ≢ 1)) → (account_of (set (replicate 65 no_account) 1 let_in) w).admitted ≡ (nat_le 1 w && nat_le w 1)
-    go (inl same) =
-        subst (λ v. (account_of (set (replicate 65 no_account) 1 let_in) v).admitted ≡ (nat_le 1 v && nat_le v 1)) (sym same.1)
-        (ap (λ (a : Account). a.admitted) (own_account (replicate 65 no_account) 1 let_in (omega arith)))
-    go (inr apart) =
-        ap (λ (a : Account). a.admitted) (other_account (replicate 65 no_account) 1 w let_in apart.1 ∙ new_account 65 w) ∙ sym (other w apart.1)
-
--- and no opener lacks a place for its death, since nothing has happened
-pub places_there : (l : Local) (why : AdmitStop) → l.past ≡ [] → l.accounts ≡ replicate 65 no_account → LacksPlaces l 1 why → why ≡ admit.Memory
-places_there l admit.Memory past fresh lacks = refl
-places_there l admit.JournalFull past fresh lacks = absurd (omega (arith, lacks, ap length past, none))
-  where
-    none : kept_in l.accounts ≡ 0
-    none = ap kept_in fresh ∙ total_none (λ w. (account_of (replicate 65 no_account) w).kept) 64 (λ w. ap (λ (a : Account). a.kept) (new_account 65 w))
-
--- so only memory can be short
-pub open_halted : {A : Type 0} (stock left : Stock) (start : Region) (parts : List Part) (line : Option Line) (q : PlayerState) (result : Result A Halt) (why : AdmitStop) →
-    IsErrAnd result (λ e. e ≡ of_admission why) → why ≡ admit.Memory → Takes stock left start parts line q result
-open_halted stock left start parts line q (Ok x) why same short = absurd same
-open_halted stock left start parts line q (Err e) why same short = subst (HasHalted stock start parts line) (sym (same ∙ ap of_admission short)) tt
-
-some_in : {A : Type 0} (old new : List A) (last : A) → old ≡ new ++ last ∷ [] → 0 < length old
+-- A handler was drawn from the stock, and one more opener let in.
+some_in : {A : Type 0} (old new : List A) (last : A) → old ≡ new ++ last ∷ [] → length old ≡ length new + 1
 some_in old new last is = omega (arith, ap length is, length-append new (last ∷ []))
 
--- a handler was drawn from a stock that had one
-pub stock_had : {A : Type 0} (d d' r r' l l' : List A) (last : A) (strategy : Strategy) →
-    Draws strategy Discard d d' (Some last) → Draws strategy Recover r r' (Some last) → Draws strategy Leave l l' (Some last) →
-    0 < stocked (record { discard = length d; recover = length r; leave = length l }) strategy
-stock_had d d' r r' l l' last Discard of_discard of_recover of_leave = some_in d d' last (of_discard.0 refl)
-stock_had d d' r r' l l' last Recover of_discard of_recover of_leave = some_in r r' last (of_recover.0 refl)
-stock_had d d' r r' l l' last Leave of_discard of_recover of_leave = some_in l l' last (of_leave.0 refl)
-
-pub open_taken : (stock left left' : Stock) (start : Region) (parts : List Part) (p q : PlayerState) (o : OpenerState) (who : ℕ) (strategy : Strategy) →
-    p.opener ≡ None → 0 < stocked left strategy → q.seat.region.start ≡ p.seat.region.start → q.seat.region.past ≡ p.seat.region.past →
-    q.seat.region.failing.listed ≡ p.seat.region.failing.listed → IsOnly q.seat → q.opener ≡ Some o → q.outcomes ≡ p.outcomes → Tied o (seat_state q.seat) → o ≡ new_opener who → who ≡ 1 →
-    IsAt stock left start parts p → TakesOne stock left' start parts (Some (Open strategy)) q
-open_taken stock left left' start parts p q o who strategy none had begins past listed only opener outcomes tied new one at = (
-  [],
-  None,
-  record {
-    start_is = begins ∙ at.start_is;
-    past = past ∙ at.past;
-    outcomes = outcomes ∙ at.outcomes ∙ sym (append-nil (outcomes_of parts));
-    steady = listed ∙ at.steady;
-    each = (at.each, ((few, enough), (refl, refl)));
-    in_time = (at.in_time, opened_in_time start grown o q.seat opened);
-    reasoned = (at.reasoned, quiet_reasoned start (record { line = Some (Open strategy); made = []; outcome = None }) parts refl);
-    roomy = (at.roomy, room_of start grown o q.seat (past ∙ at.past) opened);
-    opener = subst (OpenerAt stock left' start grown q.seat) (sym opener) opened;
-  },
-)
+both_more : (strategy : Strategy) (s : Strategy) (opened : List Strategy) → drawn s (opened ++ strategy ∷ []) ≡ drawn s opened + (if is_same s strategy then 1 else 0)
+both_more strategy s opened =
+    ap length (filter-append (is_same s) opened (strategy ∷ [])) ∙ length-append (filter (is_same s) opened) (filter (is_same s) (strategy ∷ [])) ∙ ap (λ n. drawn s opened + n) (one (is_same s strategy))
   where
-    un : IsUnopened stock left parts
-    un = subst (OpenerAt stock left start parts p.seat) none at.opener
+    one : (b : Bool) → length (if b then strategy ∷ [] else []) ≡ (if b then 1 else 0)
+    one true = refl
+    one false = refl
 
-    grown : List Part
+-- one handler fewer of the strategy that was asked for
+module _ {A : Type 0} (d d' r r' l l' : List A) where
+  abbrev had : Stock
+  had = record { discard = length d; recover = length r; leave = length l }
+
+  abbrev has : Stock
+  has = record { discard = length d'; recover = length r'; leave = length l' }
+
+  pub one_drawn : (last : A) (strategy : Strategy) → Draws strategy Discard d d' (Some last) → Draws strategy Recover r r' (Some last) → Draws strategy Leave l l' (Some last) →
+      (s : Strategy) → stocked (record { discard = length d'; recover = length r'; leave = length l' }) s + (if is_same s strategy then 1 else 0)
+      ≡ stocked (record { discard = length d; recover = length r; leave = length l }) s
+  one_drawn last Discard of_discard of_recover of_leave Discard = sym (some_in d d' last (of_discard.0 refl))
+  one_drawn last Discard of_discard of_recover of_leave Recover = omega (arith, ap length (of_recover.1 (λ e. absurd cc)))
+  one_drawn last Discard of_discard of_recover of_leave Leave = omega (arith, ap length (of_leave.1 (λ e. absurd cc)))
+  one_drawn last Recover of_discard of_recover of_leave Discard = omega (arith, ap length (of_discard.1 (λ e. absurd cc)))
+  one_drawn last Recover of_discard of_recover of_leave Recover = sym (some_in r r' last (of_recover.0 refl))
+  one_drawn last Recover of_discard of_recover of_leave Leave = omega (arith, ap length (of_leave.1 (λ e. absurd cc)))
+  one_drawn last Leave of_discard of_recover of_leave Discard = omega (arith, ap length (of_discard.1 (λ e. absurd cc)))
+  one_drawn last Leave of_discard of_recover of_leave Recover = omega (arith, ap length (of_recover.1 (λ e. absurd cc)))
+  one_drawn last Leave of_discard of_recover of_leave Leave = sym (some_in l l' last (of_leave.0 refl))
+
+  pub none_left : (strategy : Strategy) → Draws strategy Discard d d' None → Draws strategy Recover r r' None → Draws strategy Leave l l' None →
+      stocked (record { discard = length d; recover = length r; leave = length l }) strategy ≡ 0
+  none_left Discard of_discard of_recover of_leave = ap length (of_discard.0 refl).0
+  none_left Recover of_discard of_recover of_leave = ap length (of_recover.0 refl).0
+  none_left Leave of_discard of_recover of_leave = ap length (of_leave.0 refl).0
+
+is_itself : (s : Strategy) → is_same s s ≡ true
+is_itself Discard = refl
+is_itself Recover = refl
+is_itself Leave = refl
+
+one_of : (b : Bool) → b ≡ true → ◌≡◌ {A = ℕ} (if b then 1 else 0) 1
+one_of true e = refl
+one_of false e = absurd cc
+
+-- a handler that was drawn or not
+pub none_drawn : {A : Type 0} (d d' r r' l l' : List A) (drawn : Option A) (strategy : Strategy) → drawn ≡ None → Draws strategy Discard d d' drawn → Draws strategy Recover r r' drawn → Draws strategy Leave l l' drawn →
+    stocked (record { discard = length d; recover = length r; leave = length l }) strategy ≡ 0
+none_drawn d d' r r' l l' drawn strategy none of_discard of_recover of_leave =
+    none_left d d' r r' l l' strategy (subst (Draws strategy Discard d d') none of_discard) (subst (Draws strategy Recover r r') none of_recover) (subst (Draws strategy Leave l l') none of_leave)
+
+-- a stock without a handler of the strategy opens nobody
+pub undrawn_halted : (stock left : Stock) (start : Region) (parts : List Part) (p : PlayState) (strategy : Strategy) → IsAt stock left start parts p → stocked left strategy ≡ 0 →
+    HasHalted stock start parts (Some (Open strategy)) halt.Refused
+undrawn_halted stock left start parts p strategy at none can = absurd (omega (arith, at.drawn strategy, none, can.0.1))
+
+-- A stock that had one opens an opener where the world does.
+abbrev NoPlace : ℕ → List Event → Type 0
+NoPlace opened past = (reserved : ℕ) × (0 < reserved → (v : ℕ) × (lock_of (locks_after past) v ≡ Some Exclusive)) × IsTooFull opened past (reserved + 1)
+
+module _ (stock left left' : Stock) (start : Region) (parts : List Part) (p : PlayState) (strategy : Strategy) (before : IsSound p.world) (at : IsAt stock left start parts p)
+    (drew : (s : Strategy) → stocked left' s + (if is_same s strategy then 1 else 0) ≡ stocked left s) where
+  enough : drawn strategy (strategies parts) < stocked stock strategy
+  enough = omega (arith, at.drawn strategy, drew strategy, one_of (is_same strategy strategy) (is_itself strategy))
+
+  no_place_left : most_events < length p.world.region.past + kept_in p.world.region.accounts + 1 → MetNoPlace parts
+  no_place_left full =
+      let met = subst (NoPlace (length (strategies parts))) at.past (no_place p.world before (length (strategies parts)) at.open_to (sym at.count) full) in
+      record { reserved = met.0; by_holder = met.1; full = met.2 }
+
+  -- none was opened
+  pub open_halted : (why : OpenStop) → IsNotOpened why p.world → HasHalted stock start parts (Some (Open strategy)) (of_opening why)
+  open_halted opening.TooMany most = λ can. absurd (omega (arith, most, at.count, can.0.0))
+  open_halted opening.JournalFull lacks = (Open strategy, refl, ((omega (arith, lacks.0, at.count), enough), tt), no_place_left lacks.1)
+  open_halted opening.Memory few = tt
+
+  -- one was
+  module _ (q : PlayState) (who : ℕ) (sound : IsSound q.world) (opens : Opens who p.world q.world) (text : q.text ≡ p.text) where
+    abbrev grown : List Part
     grown = record { line = Some (Open strategy); made = []; outcome = None } ∷ parts
 
-    few : length (strategies parts) < 64
-    few = omega (arith, ap length un.none)
+    n : ℕ
+    n = length (strategies parts)
 
-    enough : drawn strategy (strategies parts) < stocked stock strategy
-    enough = subst (λ x. drawn strategy x < stocked stock strategy) (sym un.none) (subst (λ x. 0 < stocked x strategy) un.full had)
+    more : length (strategies (record { line = Some (Open strategy); made = []; outcome = None } ∷ parts)) ≡ length (strategies parts) + 1
+    more = length-append (strategies parts) (strategy ∷ [])
 
-    opened : IsOpened start (record { line = Some (Open strategy); made = []; outcome = None } ∷ parts) o q.seat
-    opened = record {
-      one = ap (λ xs. length (xs ++ strategy ∷ [])) un.none;
-      tied = tied;
-      who = ap (λ (x : OpenerState). x.who) new ∙ one;
-      follows = subst (λ (x : OpenerState). FollowsWork x.work (running 1 (record { line = Some (Open strategy); made = []; outcome = None } ∷ parts))) (sym new)
-          (subst (FollowsWork Idle) (sym (going_none (running 1 parts) ∙ un.idle)) tt);
-      holds = ap (λ (x : OpenerState). x.holds) new ∙ sym un.held;
-      ours = subst (AllByRecursion (λ e. e.who ≡ 1)) (sym un.past) tt;
-      answered = subst (λ xs. HasAnswered start (past_of parts) (option_map (going_on []) (running 1 parts)) (answers_in xs)) (sym (append-nil (outcomes_of parts) ∙ un.outcomes))
-          (subst (λ r. HasAnswered start (past_of parts) r []) (sym (going_none (running 1 parts) ∙ un.idle))
-          (subst (λ x. HasAnswered start x None []) (sym un.past) (nothing_answered start)));
-      settles = subst (λ (x : OpenerState). AreSettledAt x.work start (past_of parts) (answers_in (outcomes_of parts ++ []))) (sym new)
-          (subst (λ xs. AreSettledAt Idle start (past_of parts) (answers_in xs)) (sym (append-nil (outcomes_of parts) ∙ un.outcomes))
-          (subst (λ x. AreSettledAt Idle start x []) (sym un.past) (nothing_to_settle start)));
-      bounded = subst (λ (x : OpenerState). IsBounded x.work (asked_of 1 parts) (file_size (region_after start (past_of parts)))) (sym new) tt;
-      found = subst (λ (x : OpenerState). FoundIs x.work start (past_of parts)) (sym new) tt;
-      only = only;
-      saw = subst (λ (x : OpenerState). FoundSaw x.work start (past_of parts)) (sym new) tt;
-      unfull = subst (λ (x : OpenerState). IsUnfull x.work) (sym new) (λ e. absurd cc);
-      stored = subst (HasStored step.Going o.work) (sym (going_none (running 1 parts) ∙ un.idle)) tt;
-    }
+    who_is : who ≡ length (strategies parts) + 1
+    who_is = omega (arith, opens.number, at.count)
 
-abbrev nothing : Part
-nothing = record { line = None; made = []; outcome = None }
+    count_now : length q.world.openers ≡ length (strategies parts) + 1
+    count_now = ap length opens.openers ∙ length-append p.world.openers (new_opener who ∷ []) ∙ ap (λ k. k + 1) at.count
 
-grow_nothing : (stock left : Stock) (start : Region) (parts : List Part) (s : Seated) (o : Option OpenerState) → OpenerAt stock left start parts s o →
-    OpenerAt stock left start (nothing ∷ parts) s o
-grow_nothing stock left start parts s None un =
-    record {
-      none = append-nil (strategies parts) ∙ un.none;
-      past = un.past;
-      outcomes = append-nil (outcomes_of parts) ∙ un.outcomes;
-      idle = going_none (running 1 parts) ∙ un.idle;
-      held = un.held;
-      full = un.full;
-    }
-grow_nothing stock left start parts s (Some o) op =
-    record {
-      one = ap length (append-nil (strategies parts)) ∙ op.one;
-      tied = op.tied;
-      who = op.who;
-      follows = subst (FollowsWork o.work) (sym (going_none (running 1 parts))) op.follows;
-      holds = op.holds;
-      ours = op.ours;
-      answered = subst (λ xs. HasAnswered start (past_of parts) (option_map (going_on []) (running 1 parts)) (answers_in xs)) (sym (append-nil (outcomes_of parts)))
-          (subst (λ r. HasAnswered start (past_of parts) r (answers_in (outcomes_of parts))) (sym (going_none (running 1 parts))) op.answered);
-      settles = subst (λ xs. AreSettledAt o.work start (past_of parts) (answers_in xs)) (sym (append-nil (outcomes_of parts))) op.settles;
-      bounded = op.bounded;
-      found = op.found;
-      only = op.only;
-      saw = op.saw;
-      unfull = op.unfull;
-      stored = subst (HasStored step.Going o.work) (sym (going_none (running 1 parts))) op.stored;
-    }
+    fresh : IsUnopened parts (length (strategies parts) + 1)
+    fresh = at.unopened (length (strategies parts) + 1) (inr (omega arith))
 
--- a line that names nothing
-pub nothing_taken : (stock left : Stock) (start : Region) (parts : List Part) (p : PlayerState) (line : Option Line) → line ≡ None → IsAt stock left start parts p →
-    TakesOne stock left start parts line p
-nothing_taken stock left start parts p line none at =
-    subst (λ l. TakesOne stock left start parts l p) (sym none) (
-      [],
-      None,
-      record {
-        start_is = at.start_is;
-        past = at.past;
-        outcomes = at.outcomes ∙ sym (append-nil (outcomes_of parts));
-        steady = at.steady;
-        each = (at.each, (refl, refl));
-        in_time = (at.in_time, in_time_at stock left start (nothing ∷ parts) p.seat p.opener (grow_nothing stock left start parts p.seat p.opener at.opener));
-        reasoned = (at.reasoned, quiet_reasoned start nothing parts refl);
-        roomy = (at.roomy, room_at stock left start (nothing ∷ parts) p.seat p.opener at.past (grow_nothing stock left start parts p.seat p.opener at.opener));
-        opener = grow_nothing stock left start parts p.seat p.opener at.opener;
-      },
-    )
+    still_fresh : IsUnopened (record { line = Some (Open strategy); made = []; outcome = None } ∷ parts) (length (strategies parts) + 1)
+    still_fresh = unopened_still start parts (Some (Open strategy)) (length (strategies parts) + 1) refl refl fresh
+
+    opened_now : IsOpened start (record { line = Some (Open strategy); made = []; outcome = None } ∷ parts) (length (strategies parts) + 1) (new_opener who)
+    opened_now =
+        record {
+          follows = subst (FollowsWork Idle) (sym still_fresh.idle) tt;
+          holds = sym still_fresh.held;
+          earlier = subst (λ r. AreEarlier (length (strategies parts) + 1) r (answers_in (outcomes_of grown))) (sym still_fresh.idle) tt;
+          bounded = tt;
+          found = tt;
+          saw = tt;
+          unfull = λ e. absurd cc;
+          stored = subst (HasStored step.Going Idle) (sym still_fresh.idle) tt;
+        }
+
+    each_opened : (i : ℕ) (x : OpenerState) → slice_get q.world.openers i ≡ Some x → IsOpened start (record { line = Some (Open strategy); made = []; outcome = None } ∷ parts) (i + 1) x
+    each_opened i x is = go (pushed_is p.world.openers (new_opener who) i x (subst (λ l. slice_get l i ≡ Some x) opens.openers is))
+      where
+        go : (slice_get p.world.openers i ≡ Some x) ⊎ ((i ≡ length p.world.openers) × (x ≡ new_opener who)) → IsOpened start grown (i + 1) x
+        go (inl was) = opened_still start parts (Some (Open strategy)) (i + 1) refl refl x (at.openers i x was)
+        go (inr (last, new)) =
+            let place : length (strategies parts) + 1 ≡ i + 1 = omega (arith, last, at.count) in
+            subst (λ w. IsOpened start grown w x) place (subst (IsOpened start grown (length (strategies parts) + 1)) (sym new) opened_now)
+
+    -- it was let in
+    let_in : (account_of q.world.region.accounts who).admitted ≡ true
+    let_in =
+        let i = length p.world.openers in
+        let there : slice_get q.world.openers i ≡ Some (new_opener who) = subst (λ l. slice_get l i ≡ Some (new_opener who)) (sym opens.openers) (last_there p.world.openers (new_opener who)) in
+        let tied = (sound.each i (new_opener who) there).tied in
+        subst (λ w. (account_of q.world.region.accounts w).admitted ≡ true) (sym opens.number) (admitted_by (account_of q.world.region.accounts (i + 1)).admitted (has_died q.world.region.past (i + 1)) tied.ended)
+      where
+        last_there : (xs : List OpenerState) (x : OpenerState) → slice_get (xs ++ x ∷ []) (length xs) ≡ Some x
+        last_there [] x = refl
+        last_there (y ∷ xs) x = last_there xs x
+
+        admitted_by : (a d : Bool) → (not a || d) ≡ false → a ≡ true
+        admitted_by true d e = refl
+        admitted_by false d e = absurd cc
+
+    open_now : IsOpenTo (length (strategies parts) + 1) q.world.region
+    open_now w least = go (eqb_tells w who)
+      where
+        yes : (a b : ℕ) → a ≤ b → nat_le a b ≡ true
+        yes a b le = grind (arith, nat_tests)
+
+        same : (w n : ℕ) → w ≢ n + 1 → nat_le w n ≡ nat_le w (n + 1)
+        same w n apart = grind (arith, nat_tests)
+
+        go : ((eqb w who ≡ true) × (w ≡ who)) ⊎ ((eqb w who ≡ false) × (w ≢ who)) → (account_of q.world.region.accounts w).admitted ≡ nat_le w (length (strategies parts) + 1)
+        go (inl here) = ap (λ v. (account_of q.world.region.accounts v).admitted) here.1 ∙ let_in ∙ sym (yes w (length (strategies parts) + 1) (omega (arith, here.1, who_is)))
+        go (inr apart) =
+            ap (λ (l : Local). (account_of l.accounts w).admitted) opens.region
+            ∙ ap (λ (a : Account). a.admitted) (other_account p.world.region.accounts who w (after_admission (account_of p.world.region.accounts who)) apart.1)
+            ∙ at.open_to w least ∙ same w (length (strategies parts)) (λ e. apart.1 (e ∙ sym who_is))
+
+    pub open_taken : TakesOne stock left' start parts (Some (Open strategy)) q
+    open_taken =
+        quiet_taken stock left left' start parts (Some (Open strategy)) p q at
+        (record {
+          sound = sound;
+          start_is = ap (λ (l : Local). l.start) opens.region;
+          past = ap (λ (l : Local). l.past) opens.region;
+          listed = ap (λ (l : Local). l.failing.listed) opens.region;
+          answers = opens.answers;
+          text = text;
+          may = ((omega (arith, opens.least, at.count), enough), (refl, refl));
+          count = count_now ∙ sym more;
+          open_to = subst (λ k. IsOpenTo k q.world.region) (sym more) open_now;
+          drawn = λ s. omega (arith, both_more strategy s (strategies parts), drew s, at.drawn s);
+          openers = each_opened;
+          unopened = λ v is. unopened_still start parts (Some (Open strategy)) v refl refl (at.unopened v (nobody v (subst (λ k. IsNobody k v) more is)));
+        })
+      where
+        nobody : (v : ℕ) → IsNobody (length (strategies parts) + 1) v → IsNobody (length (strategies parts)) v
+        nobody v (inl none) = inl none
+        nobody v (inr far) = inr (omega (arith, far))
+
+-- A world without openers is a script of no lines.
+new_account : (n who : ℕ) → account_of (replicate n no_account) who ≡ no_account
+new_account zero who = refl
+new_account (suc n) zero = refl
+new_account (suc n) (suc who) = new_account n who
+
+none_in : (l : Local) → l.accounts ≡ replicate 65 no_account → IsOpenTo 0 l
+none_in l fresh w least = ap (λ accounts. (account_of accounts w).admitted) fresh ∙ ap (λ (a : Account). a.admitted) (new_account 65 w) ∙ sym (beyond w least)
+  where
+    beyond : (w : ℕ) → 1 ≤ w → nat_le w 0 ≡ false
+    beyond w least = grind (arith, nat_tests)
+
+pub no_lines : (stock : Stock) (l : Local) (w : WorldState) → w ≡ record { region = l; openers = []; answers = [] } → l.past ≡ [] → l.accounts ≡ replicate 65 no_account → l.failing.listed ≡ [] →
+    IsAt stock stock w.region.start [] (play_state w [])
+no_lines stock l w is past accounts listed =
+    subst (λ (v : WorldState). IsAt stock stock v.region.start [] (play_state v [])) (sym is)
+    (record {
+      start_is = refl;
+      past = past;
+      answers = refl;
+      text = refl;
+      steady = listed;
+      live = tt;
+      each = tt;
+      in_time = tt;
+      reasoned = tt;
+      roomy = tt;
+      answered = nothing_answered l.start;
+      within = λ k d lt. absurd (omega (arith, lt));
+      count = refl;
+      open_to = none_in l accounts;
+      drawn = λ s. omega arith;
+      openers = λ i o is. absurd cc;
+      unopened = λ who is. record { idle = refl; held = refl };
+    })

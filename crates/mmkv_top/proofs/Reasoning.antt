@@ -29,7 +29,7 @@ use Rattle.script_lang.specs.declared.outcome.Outcome.TheVariants.{Answered, Blo
 use Rattle.script_lang.specs.declared.outcome.Reason.{Reason}
 use Rattle.mmkv_top.specs.Parts.{Part, past_of, running}
 use Rattle.mmkv_top.specs.Played.{IsPrinted, IsReasoned, WasRefused, reason_said}
-use Rattle.mmkv_top.specs.Player.{FoundIs, IsOutcomeAt, StopHolds, StoppedIs}
+use Rattle.mmkv_top.specs.Progress.{FoundIs, IsOutcomeAt, StopHolds, StoppedIs}
 
 -- a reason that is said is one that is printed
 pub said_printed : (why : Stop) (r : Reason) → reason_said why ≡ Some r → IsPrinted r
@@ -131,26 +131,34 @@ pub idle_found : (work : Work) (start : Region) (past : List Event) → work ≡
 idle_found work start past idle = subst (λ w. FoundIs w start past) (sym idle) tt
 
 -- the line that a stop ends is reasoned
-pub is_reasoned : (start : Region) (p : Part) (parts : List Part) (last : Step) → IsOutcomeAt last p.outcome → StoppedIs last (running 1 parts) start (p.made ++ past_of parts) → IsReasoned start p parts
-is_reasoned start p parts last at stopped c who r runs is = go last at (subst (λ b. StoppedIs last b start (p.made ++ past_of parts)) runs stopped)
+pub is_reasoned : (who : ℕ) (start : Region) (p : Part) (parts : List Part) (last : Step) → IsOutcomeAt who last p.outcome → StoppedIs last (running who parts) start (p.made ++ past_of parts) →
+    IsReasoned start p parts
+is_reasoned who start p parts last at stopped c w r runs is = go last at stopped
   where
     Wanted : Type 0
     Wanted = (why : Stop) × (reason_said why ≡ Some r) × WasRefused why c.call c.now (length (changes_of c.past)) start (p.made ++ past_of parts)
 
-    go : (last : Step) → IsOutcomeAt last p.outcome → StoppedIs last (Some c) start (p.made ++ past_of parts) → Wanted
+    number_in : Option Outcome → ℕ
+    number_in (Some (Stopped v x)) = v
+    number_in _ = 0
+
+    reason_in : Option Outcome → Option Reason
+    reason_in (Some (Stopped v x)) = Some x
+    reason_in _ = None
+
+    go : (last : Step) → IsOutcomeAt who last p.outcome → StoppedIs last (running who parts) start (p.made ++ past_of parts) → Wanted
     go (step.Stopped why) (r', outcome, said) held =
-        let same : Some (Stopped 1 r') ≡ Some (Stopped who r) = sym outcome ∙ is in
+        let same : Some (Stopped who r') ≡ Some (Stopped w r) = sym outcome ∙ is in
         let one : Some r' ≡ Some r = ap reason_in same in
-        let all : reason_said why ≡ Some r = said ∙ one in (why, all, held (subst (λ o. IsTrue (is_some o)) (sym all) refl))
-      where
-        reason_in : Option Outcome → Option Reason
-        reason_in (Some (Stopped w x)) = Some x
-        reason_in _ = None
-    go step.Idle none held = let both : None ≡ Some (Stopped who r) = sym none ∙ is in absurd cc
-    go step.Going none held = let both : None ≡ Some (Stopped who r) = sym none ∙ is in absurd cc
-    go step.Again none held = let both : None ≡ Some (Stopped who r) = sym none ∙ is in absurd cc
-    go (step.Blocked holder) blocked held = let both : Some (Blocked 1 holder) ≡ Some (Stopped who r) = sym blocked ∙ is in absurd cc
-    go (step.Answered a) answered held = let both : Some (Answered a) ≡ Some (Stopped who r) = sym answered ∙ is in absurd cc
+        let number : who ≡ w = ap number_in same in
+        let all : reason_said why ≡ Some r = said ∙ one in
+        let mine : running who parts ≡ Some c = ap (λ v. running v parts) number ∙ runs in
+        (why, all, subst (λ b. StoppedIs (step.Stopped why) b start (p.made ++ past_of parts)) mine held (subst (λ o. IsTrue (is_some o)) (sym all) refl))
+    go step.Idle none held = let both : None ≡ Some (Stopped w r) = sym none ∙ is in absurd cc
+    go step.Going none held = let both : None ≡ Some (Stopped w r) = sym none ∙ is in absurd cc
+    go step.Again none held = let both : None ≡ Some (Stopped w r) = sym none ∙ is in absurd cc
+    go (step.Blocked holder) blocked held = let both : Some (Blocked who holder) ≡ Some (Stopped w r) = sym blocked ∙ is in absurd cc
+    go (step.Answered a) answered held = let both : Some (Answered a) ≡ Some (Stopped w r) = sym answered ∙ is in absurd cc
 
 -- a line without an outcome is
 pub quiet_reasoned : (start : Region) (p : Part) (parts : List Part) → p.outcome ≡ None → IsReasoned start p parts

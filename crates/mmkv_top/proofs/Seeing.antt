@@ -1,12 +1,10 @@
 -- A call is stopped for an image that isn't whole only where checksums don't tell payloads apart, or the start shows none.
 use Rattle.std.proofs.Common.{◌≡◌, ◌≢◌, ℕ, false, List, [], ◌++◌, refl, sym, ap, ◌∙◌, inl, inr, subst, append_assoc}
 use Rattle.std.specs.Prelude.{Option, Some, None, Ok, Err, IfSome, IsOk, Result}
-use Rattle.lock_rules.specs.declared.table.LockKind.{LockKind}
-use Rattle.lock_rules.specs.declared.table.LockKind.TheVariants.{Exclusive, Shared}
 use Rattle.meta_record.specs.declared.record.RecordFault.{RecordFault}
 use Rattle.meta_record.specs.declared.shown.Shown.{Shown}
 use Rattle.meta_record.specs.declared.shown.Shown.TheVariants.{Whole}
-use Rattle.opener.specs.Opener.{HasReason, HasStopped, Tied, is_storing, lock_in, stop_found}
+use Rattle.opener.specs.Opener.{HasReason, HasStopped, Tied, stop_found}
 use Rattle.opener.specs.State.{OpenerState}
 use Rattle.opener.specs.declared.calls.Stop.{Stop}
 use Rattle.opener.specs.declared.calls.Stop.TheVariants as stop
@@ -17,14 +15,12 @@ use Rattle.opener.specs.declared.work.Work.TheVariants.{Runs}
 use Rattle.region_words.specs.Apart.{Apart}
 use Rattle.region_words.specs.Local.{Seated, seat_state}
 use Rattle.region_words.specs.Outcome.{AtRest}
-use Rattle.region_words.specs.Past.{AreSteps, locks_after, region_after}
+use Rattle.region_words.specs.Past.{NoneDies, region_after}
 use Rattle.region_words.specs.Region.{Region, shown}
-use Rattle.region_words.specs.Share.{lock_of}
 use Rattle.region_words.specs.declared.event.Event.{Event}
 use Rattle.region_words.proofs.Regions.{lawful_accepted}
-use Rattle.mmkv_top.specs.Player.{FoundSaw, SawNoImage, StopSaw}
-use Rattle.mmkv_top.proofs.NoPlaces.{at_stop}
-use Rattle.region_words.proofs.WholeAtRest.{rests_free, steps_live, whole_at_rest}
+use Rattle.mmkv_top.specs.Progress.{FoundSaw, SawNoImage, StopSaw}
+use Rattle.region_words.proofs.WholeAtRest.{whole_at_rest}
 
 -- what holds of the thing in an option, if any
 if_some : {A : Type 0} {P Q : A → Type 0} (o : Option A) → ((x : A) → o ≡ Some x → P x → Q x) → IfSome o P → IfSome o Q
@@ -56,34 +52,24 @@ not_refused : (c : Result (Unit {0}) RecordFault) (why : RecordFault) → IsOk c
 not_refused (Ok u) why ok is = absurd cc
 not_refused (Err fault) why ok is = absurd cc
 
--- What a step finds, or comes to, where no stores are under way after it.
-module _ (o : OpenerState) (s t : Seated) (tied : Tied o (seat_state t)) (still : is_storing o.work ≡ false) (seat : t.who ≡ 1) (own : AreSteps 1 t.region.past) where
-  at_rest : Apart t.region.start t.region.past → AtRest t.region.start t.region.past
-  at_rest apart = go (lock_in o.holds o.work) refl
-    where
-      held : lock_of (locks_after t.region.past) 1 ≡ lock_in o.holds o.work
-      held = ap (lock_of (locks_after t.region.past)) (sym seat) ∙ tied.holds
-
-      go : (lock : Option LockKind) → lock_in o.holds o.work ≡ lock → AtRest t.region.start t.region.past
-      go (Some Exclusive) is = (None, tied.told.facts.rests is still apart)
-      go (Some Shared) is = rests_free 1 t.region.start t.region.past own tied.told.agrees.lawful apart (λ e. let both : Some Shared ≡ Some Exclusive = sym is ∙ sym held ∙ e in absurd cc)
-      go None is = rests_free 1 t.region.start t.region.past own tied.told.agrees.lawful apart (λ e. let both : None ≡ Some Exclusive = sym is ∙ sym held ∙ e in absurd cc)
-
-  saw_none : (seen : Shown) → shown (region_after t.region.start t.region.past) ≡ seen → ((n : ℕ) → seen ≢ Whole n) → SawNoImage t.region.start t.region.past
-  saw_none seen shows broken =
+-- What a step finds, or comes to.
+module _ (o : OpenerState) (s t : Seated) (tied : Tied o (seat_state t)) (live : NoneDies t.region.past) where
+  saw_none : (seen : Shown) → shown (region_after t.region.start t.region.past) ≡ seen → ((n : ℕ) → seen ≢ Whole n) → (Apart t.region.start t.region.past → AtRest t.region.start t.region.past) →
+      SawNoImage t.region.start t.region.past
+  saw_none seen shows broken calm =
       record {
         later = [];
         earlier = t.region.past;
         is = refl;
         not_whole = λ n whole. broken n (sym shows ∙ whole);
         apart = λ n began apart.
-            let rest = at_rest apart in
-            let whole = whole_at_rest t.region.start tied.told.agrees.region tied.told.accepted t.region.past rest.0 n tied.told.agrees.lawful apart (steps_live 1 t.region.past own) rest.1 began in
+            let rest = calm apart in
+            let whole = whole_at_rest t.region.start tied.told.agrees.region tied.told.accepted t.region.past rest.0 n tied.told.agrees.lawful apart live rest.1 began in
             broken whole.0 (sym shows ∙ whole.1);
       }
 
   stop_saw : (c : Call) (at : Stage) (why : Stop) → s.region.failing.listed ≡ [] → HasReason (Runs c at) why (seat_state s) (seat_state t) → StopSaw why t.region.start t.region.past
-  stop_saw c at (stop.NotWhole seen) steady h = saw_none seen h.0 h.1
+  stop_saw c at (stop.NotWhole seen) steady h = saw_none seen h.0 h.1 h.2
   stop_saw c at (stop.Version n) steady h = not_refused _ _ (lawful_accepted t.region.start t.region.past tied.told.accepted tied.told.agrees.lawful) h
   stop_saw c at (stop.Flags n) steady h = not_refused _ _ (lawful_accepted t.region.start t.region.past tied.told.accepted tied.told.agrees.lawful) h
   stop_saw c at stop.Fault steady h = h.due.0 steady
@@ -102,7 +88,6 @@ module _ (o : OpenerState) (s t : Seated) (tied : Tied o (seat_state t)) (still 
   stopped_saw c at (Some found) why steady saw (inr (fault, fails)) = absurd (fails.due.0 steady)
 
 -- it goes on, and has found a stop or not
-pub going_saw : (o : OpenerState) (s t : Seated) (c : Call) (at : Stage) → Tied o (seat_state t) → t.who ≡ 1 → AreSteps 1 t.region.past → s.region.failing.listed ≡ [] →
+pub going_saw : (o : OpenerState) (s t : Seated) (c : Call) (at : Stage) → Tied o (seat_state t) → NoneDies t.region.past → s.region.failing.listed ≡ [] →
     IfSome (stop_found o.work) (λ why. HasReason (Runs c at) why (seat_state s) (seat_state t)) → FoundSaw o.work t.region.start t.region.past
-going_saw o s t c at tied seat own steady h =
-    if_some (stop_found o.work) (λ why is reason. stop_saw o s t tied (at_stop o o.work (seat_state t) why is).0 seat own c at why steady reason) h
+going_saw o s t c at tied live steady h = if_some (stop_found o.work) (λ why is reason. stop_saw o s t tied live c at why steady reason) h

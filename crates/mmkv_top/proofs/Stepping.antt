@@ -1,5 +1,6 @@
 -- A line goes on by one step of its opener.
-use Rattle.std.proofs.Common.{◌≡◌, ℕ, ◌+◌, ◌≤◌, Bool, true, false, List, [], ◌∷◌, ◌++◌, length, refl, sym, ap, ◌∙◌, inl, inr, arith, subst, append-nil, append_assoc, length-append, eq-eqb}
+use Rattle.std.proofs.Common.{◌≡◌, ◌≢◌, ℕ, ◌+◌, ◌<◌, ◌≤◌, ◌⊎◌, eqb, Bool, true, false, List, [], ◌∷◌, ◌++◌, length, refl, sym, ap, ◌∙◌, inl, inr, arith, subst, append-nil, append_assoc, length-append, eq-eqb}
+use Rattle.std.proofs.lemmas.Bool.Decides.{eqb_tells}
 use Rattle.std.proofs.lemmas.List.{append_cancel_right, length-map}
 use Rattle.std.specs.Prelude.{⊤, Option, Some, None, IfSome, option_map, not, ◌||◌, ◌&&◌, ◌==◌}
 use Rattle.std.specs.List.{AllByRecursion}
@@ -9,7 +10,6 @@ use Rattle.lock_rules.specs.Locks.{IsLeastAgainst}
 use Rattle.opener.specs.Calls.{holds_after}
 use Rattle.opener.specs.Adds.{AddsTo, Counts, IsRaised, IsRaisedIn, locks_taken, stores_in}
 use Rattle.opener.specs.Bound.{Falls, steps_left}
-use Rattle.opener.specs.Settles.{IsSettledBy, Settles, answers_by}
 use Rattle.opener.specs.Opener.{Tied, MakesOne, KeepsWork, KeepsCall, HasCause, HasStopped, OnAnswer, IsAnswer, IsAnswerOf, RunsOn, HasReason, IsAt, IsSeen, Owes, WorkIs, is_ended, is_storing, lock_in, stop_found}
 use Rattle.opener.specs.State.{OpenerState}
 use Rattle.opener.specs.declared.calls.Step.{Step}
@@ -25,34 +25,36 @@ use Rattle.opener.specs.declared.work.Work.TheVariants.{Idle, Ended, Runs}
 use Rattle.region_words.specs.Answered.{is_store}
 use Rattle.region_words.specs.Lawful.{Lawful}
 use Rattle.region_words.specs.Region.{Region, file_size}
-use Rattle.region_words.specs.Past.{AreSteps, changes_of, region_after, locks_after, has_died, is_death}
+use Rattle.region_words.specs.Past.{AreSteps, NoneDies, changes_of, region_after, locks_after, has_died, is_death}
 use Rattle.region_words.specs.Local.{Seated, seat_state, account_of, lock_after}
 use Rattle.region_words.specs.Share.{ShareState, made_by}
 use Rattle.region_words.specs.Told.{History, OnTold}
 use Rattle.region_words.specs.declared.event.Event.{Event}
 use Rattle.region_words.specs.declared.event.What.{What}
+use Rattle.world.specs.World.{IsSound, WorldState, share_of}
+use Rattle.world.specs.Moves.{Steps}
 use Rattle.mmkv_top.specs.Parts.{Running, going_on, is_lock, locks_among, stores_among}
 use Rattle.mmkv_top.proofs.Counting.{count_goes_on, own_locks, stores_of_own}
 use Rattle.mmkv_top.specs.Played.{AsksFor, IsAnsweredBy, IsTooFull}
 use Rattle.region_words.proofs.ReadLaws.{changes_more}
 use Rattle.region_words.proofs.StaysFirm.{file_grows}
 use Rattle.mmkv_top.proofs.Reasoning.{found_later, going_found, holds_of_same, idle_found, stopped_holds}
-use Rattle.mmkv_top.proofs.NoPlaces.{at_stop, found_none, reason_now, too_full}
+use Rattle.mmkv_top.proofs.NoPlaces.{Reserver, alone_asks, at_stop, found_none, reason_now, too_full}
 use Rattle.mmkv_top.proofs.Storing.{step_stored}
 use Rattle.mmkv_top.proofs.Seeing.{going_saw, saw_still, stopped_saw}
-use Rattle.mmkv_top.specs.Player.{AreSettledAt, FoundIs, FoundSaw, HasStored, IsUnfull, MetFull, StoppedFull, StoppedIs, StoppedSaw, LeavesFewer, Follows, FollowsWork, CameTo, Stepped}
+use Rattle.mmkv_top.specs.Progress.{FoundIs, FoundSaw, HasStored, IsOpenTo, IsUnfull, MetFull, StoppedFull, StoppedIs, StoppedSaw, LeavesFewer, Follows, FollowsWork, CameTo, Stepped, seat_at}
 
 -- what a call on the seat made
-record Moved (s t : Seated) : Type 0 where
-  own : List What
-  few : length own ≤ 1
-  who : t.who ≡ s.who
-  start : t.region.start ≡ s.region.start
-  past : t.region.past ≡ made_by s.who own ++ s.region.past
-  listed : t.region.failing.listed ≡ s.region.failing.listed
-  admitted : (w : ℕ) → (account_of t.region.accounts w).admitted ≡ (account_of s.region.accounts w).admitted
+pub record Moved (s t : Seated) : Type 0 where
+  pub own : List What
+  pub few : length own ≤ 1
+  pub who : t.who ≡ s.who
+  pub start : t.region.start ≡ s.region.start
+  pub past : t.region.past ≡ made_by s.who own ++ s.region.past
+  pub listed : t.region.failing.listed ≡ s.region.failing.listed
+  pub admitted : (w : ℕ) → (account_of t.region.accounts w).admitted ≡ (account_of s.region.accounts w).admitted
 
-moved : (s t : Seated) → MakesOne (seat_state s) (seat_state t) → Moved s t
+pub moved : (s t : Seated) → MakesOne (seat_state s) (seat_state t) → Moved s t
 moved s t (inl same) =
     record {
       own = [];
@@ -94,13 +96,10 @@ own_steps who (what ∷ own) past h = (
   own_steps who own past (right_false ((who == who) && is_death what) (has_died (made_by who own ++ past) who) h),
 )
 
--- and so it is of all events where none is of another
-pub all_own : (past : List Event) → AllByRecursion (λ e. e.who ≡ 1) past → has_died past 1 ≡ false → AreSteps 1 past
-all_own [] ours alive = tt
-all_own (e ∷ past) ours alive = (
-  (ours.0, no_death (e.who == 1) (is_death e.what) (eq-eqb e.who 1 ours.0) (left_false ((e.who == 1) && is_death e.what) (has_died past 1) alive)),
-  all_own past ours.1 (right_false ((e.who == 1) && is_death e.what) (has_died past 1) alive),
-)
+-- and where an opener lives on nobody has died
+live_join : (who : ℕ) (own past : List Event) → AreSteps who own → NoneDies past → NoneDies (own ++ past)
+live_join who [] past own live = live
+live_join who (e ∷ own) past made live = (made.0.1, live_join who own past made.1 live)
 
 steps_join : (who : ℕ) (xs ys : List Event) → AreSteps who xs → AreSteps who ys → AreSteps who (xs ++ ys)
 steps_join who [] ys h k = k
@@ -156,9 +155,9 @@ runs_on c r own loads stores locks (Runs next stage) few of_stores of_locks foll
       locks = count_goes_on (λ e. is_lock e.what) own r.since locks c.locks next.locks of_locks few follows.locks raised.locks_are;
     }
 
-answered : (a : Answer) (who : ℕ) (c : Call) (r : Running) (own : List Event) (start : Region) (past : List Event) (loads stores locks : ℕ) → who ≡ 1 → length own ≤ 1 → stores ≡ stores_among own →
-    locks ≡ locks_among own → IsRaised c loads stores locks a.loads a.stores a.locks → Follows c r → IsAnswerOf a who c → IsAnswer a start past → IsAnsweredBy past (going_on own r) 1 a
-answered a who c r own start past loads stores locks one few of_stores of_locks raised follows of is =
+answered : (a : Answer) (by who : ℕ) (c : Call) (r : Running) (own : List Event) (start : Region) (past : List Event) (loads stores locks : ℕ) → by ≡ who → length own ≤ 1 → stores ≡ stores_among own →
+    locks ≡ locks_among own → IsRaised c loads stores locks a.loads a.stores a.locks → Follows c r → IsAnswerOf a by c → IsAnswer a start past → IsAnsweredBy past (going_on own r) who a
+answered a by who c r own start past loads stores locks one few of_stores of_locks raised follows of is =
     record {
       by = of.by ∙ one;
       call_is = of.call_is ∙ follows.call;
@@ -172,11 +171,11 @@ answered a who c r own start past loads stores locks one few of_stores of_locks 
     }
 
 -- what a step of a call that runs comes to
-module _ (s t : Seated) (seat : t.who ≡ 1) (steady : s.region.failing.listed ≡ []) where
-  call_came : (o o' : OpenerState) (c : Call) (at : Stage) (r : Running) (own : List Event) (held : ℕ) (result : Step) → o.who ≡ 1 → o.holds ≡ held →
+module _ (who : ℕ) (s t : Seated) (seat : t.who ≡ who) (steady : s.region.failing.listed ≡ []) where
+  call_came : (o o' : OpenerState) (c : Call) (at : Stage) (r : Running) (own : List Event) (held : ℕ) (result : Step) → o.who ≡ who → o.holds ≡ held →
       IsAt o (Runs c at) → Follows c r → Counted c own result o'.work → KeepsCall o.who o.holds c result o' →
       HasCause (Runs c at) result o'.work (seat_state s) (seat_state t) →
-      OnAnswer result (λ a. IsAnswer a t.region.start t.region.past) → CameTo t.region.past held (Some (going_on own r)) result o'
+      OnAnswer result (λ a. IsAnswer a t.region.start t.region.past) → CameTo who t.region.past held (Some (going_on own r)) result o'
   call_came o o' c at r own held step.Idle one same is follows n keeps cause answer = absurd keeps
   call_came o o' c at r own held step.Going one same is follows n keeps cause answer =
       (runs_on c r own n.loads n.stores n.locks o'.work n.few n.stores_are n.locks_are follows keeps.0 n.counts, keeps.1 ∙ same)
@@ -184,7 +183,7 @@ module _ (s t : Seated) (seat : t.who ≡ 1) (steady : s.region.failing.listed �
   call_came o o' c at r own held (step.Blocked holder) one same is follows n keeps cause answer =
       (runs_on c r own n.loads n.stores n.locks o'.work n.few n.stores_are n.locks_are follows keeps.0 n.counts, keeps.1 ∙ same, (cause.0, subst (λ w. IsLeastAgainst (locks_after t.region.past) w cause.0 holder) seat cause.1.1))
   call_came o o' c at r own held (step.Answered a) one same is follows n keeps cause answer =
-      (keeps.1, keeps.2 ∙ ap (λ x. holds_after x o.holds) follows.call ∙ ap (holds_after r.call) same, answered a o.who c r own t.region.start t.region.past n.loads n.stores n.locks one n.few n.stores_are n.locks_are n.counts follows keeps.0 answer)
+      (keeps.1, keeps.2 ∙ ap (λ x. holds_after x o.holds) follows.call ∙ ap (holds_after r.call) same, answered a o.who who c r own t.region.start t.region.past n.loads n.stores n.locks one n.few n.stores_are n.locks_are n.counts follows keeps.0 answer)
   call_came o o' c at r own held (step.Stopped why) one same is follows n keeps cause answer = stopped why keeps cause
     where
       stopped : (why : Stop) → KeepsCall o.who o.holds c (step.Stopped why) o' → HasCause (Runs c at) (step.Stopped why) o'.work (seat_state s) (seat_state t) →
@@ -201,12 +200,12 @@ module _ (s t : Seated) (seat : t.who ≡ 1) (steady : s.region.failing.listed �
       stopped stop.ExpiryRange k h = (k.0, k.1 ∙ same)
 
   -- what a step comes to
-  step_came : (o o' : OpenerState) (work : Work) (r : Option Running) (own : List Event) (held : ℕ) (result : Step) → o.who ≡ 1 → o.holds ≡ held →
+  step_came : (o o' : OpenerState) (work : Work) (r : Option Running) (own : List Event) (held : ℕ) (result : Step) → o.who ≡ who → o.holds ≡ held →
       IsAt o work → FollowsWork work r → CountedAt work own result o'.work → KeepsWork (record o { work = work }) result o' →
       HasCause work result o'.work (seat_state s) (seat_state t) →
-      OnAnswer result (λ a. IsAnswer a t.region.start t.region.past) → CameTo t.region.past held (option_map (going_on own) r) result o'
+      OnAnswer result (λ a. IsAnswer a t.region.start t.region.past) → CameTo who t.region.past held (option_map (going_on own) r) result o'
   step_came o o' Idle None own held result one same is follows n keeps cause answer =
-      subst (λ x. CameTo t.region.past held None x o') (sym keeps.0) (subst (λ (x : OpenerState). FollowsWork x.work None × (x.holds ≡ held)) (sym keeps.1) (tt, same))
+      subst (λ x. CameTo who t.region.past held None x o') (sym keeps.0) (subst (λ (x : OpenerState). FollowsWork x.work None × (x.holds ≡ held)) (sym keeps.1) (tt, same))
   step_came o o' Idle (Some r) own held result one same is follows n keeps cause answer = absurd follows
   step_came o o' Ended None own held result one same is follows n keeps cause answer = absurd follows
   step_came o o' Ended (Some r) own held result one same is follows n keeps cause answer = absurd follows
@@ -220,18 +219,18 @@ follows_alive Ended (Some r) h = absurd h
 follows_alive (Runs c at) r h = refl
 
 -- the opener lives on
-came_alive : (past : List Event) (held : ℕ) (r : Option Running) (result : Step) (o : OpenerState) → CameTo past held r result o → is_ended o.work ≡ false
-came_alive past held r step.Going o h = follows_alive o.work r h.0
-came_alive past held None step.Idle o h = follows_alive o.work None h.0
-came_alive past held (Some r) (step.Blocked holder) o h = follows_alive o.work (Some r) h.0
-came_alive past held (Some r) (step.Answered a) o h = ap is_ended h.0
-came_alive past held (Some r) (step.Stopped why) o h = ap is_ended h.0
-came_alive past held None step.Again o h = absurd h
-came_alive past held None (step.Blocked holder) o h = absurd h
-came_alive past held None (step.Answered a) o h = absurd h
-came_alive past held None (step.Stopped why) o h = absurd h
-came_alive past held (Some r) step.Idle o h = absurd h
-came_alive past held (Some r) step.Again o h = absurd h
+came_alive : (who : ℕ) (past : List Event) (held : ℕ) (r : Option Running) (result : Step) (o : OpenerState) → CameTo who past held r result o → is_ended o.work ≡ false
+came_alive who past held r step.Going o h = follows_alive o.work r h.0
+came_alive who past held None step.Idle o h = follows_alive o.work None h.0
+came_alive who past held (Some r) (step.Blocked holder) o h = follows_alive o.work (Some r) h.0
+came_alive who past held (Some r) (step.Answered a) o h = ap is_ended h.0
+came_alive who past held (Some r) (step.Stopped why) o h = ap is_ended h.0
+came_alive who past held None step.Again o h = absurd h
+came_alive who past held None (step.Blocked holder) o h = absurd h
+came_alive who past held None (step.Answered a) o h = absurd h
+came_alive who past held None (step.Stopped why) o h = absurd h
+came_alive who past held (Some r) step.Idle o h = absurd h
+came_alive who past held (Some r) step.Again o h = absurd h
 
 -- without a call nothing is made
 idle_makes_none : (s t : Seated) (o o' : OpenerState) (work : Work) (result : Step) → FollowsWork work None → KeepsWork (record o { work = work }) result o' →
@@ -252,16 +251,6 @@ going_twice own made (Some r) = ap (λ x. Some (record r { since = x })) (sym (a
 
 abbrev event_by : ℕ → What → Event
 event_by who what = record { who = who; what = what }
-
--- what was answered since the line began is settled after one step more
-step_settled : (start : Region) (past : List Event) (first : Work) (o o' : OpenerState) (s t : Seated) (result : Step) → o.who ≡ 1 → o'.who ≡ 1 →
-    ((answers : List Answer) → AreSettledAt first start past answers → AreSettledAt o.work s.region.start s.region.past (answers ++ answers_by step.Going)) →
-    Settles o result o' (seat_state s) (seat_state t) →
-    (answers : List Answer) → AreSettledAt first start past answers → AreSettledAt o'.work t.region.start t.region.past (answers ++ answers_by result)
-step_settled start past first o o' s t result one still so_far settles answers settled =
-    let before : AreSettledAt o.work s.region.start s.region.past answers = subst (AreSettledAt o.work s.region.start s.region.past) (append-nil answers) (so_far answers settled) in
-    let after = settles answers (λ ok apart. subst (λ w. IsSettledBy w o.work s.region.start s.region.past answers) (sym one) (before ok apart)) in
-    λ ok apart. subst (λ w. IsSettledBy w o'.work t.region.start t.region.past (answers ++ answers_by result)) still (after ok apart)
 
 -- one step fewer is left after each that goes on
 step_fewer : (s t : Seated) → MakesOne (seat_state s) (seat_state t) → (first work after : Work) (n : ℕ) (result : Step) → Lawful t.region.start t.region.past →
@@ -368,37 +357,37 @@ idle_is Ended follows = absurd follows
 idle_is (Runs c at) follows = absurd follows
 
 -- what holds of an opener without a call, and held before the step, holds after it unless the step goes on
-over_work : (P : Work → Type 0) (work : Work) (past : List Event) (held : ℕ) (r : Option Running) (result : Step) (o : OpenerState) (t : ShareState) → P Idle → P work → (result ≡ step.Going → P o.work) →
-    CameTo past held r result o → Falls work result o.work t → P o.work
-over_work P work past held r step.Going o t idle before going came falls = going refl
-over_work P work past held None step.Idle o t idle before going came falls = subst P (sym (idle_is o.work came.0)) idle
-over_work P work past held (Some r) (step.Blocked holder) o t idle before going came same = subst P (sym same) before
-over_work P work past held (Some r) (step.Answered a) o t idle before going came falls = subst P (sym came.0) idle
-over_work P work past held (Some r) (step.Stopped why) o t idle before going came falls = subst P (sym came.0) idle
-over_work P work past held None step.Again o t idle before going came falls = absurd came
-over_work P work past held None (step.Blocked holder) o t idle before going came falls = absurd came
-over_work P work past held None (step.Answered a) o t idle before going came falls = absurd came
-over_work P work past held None (step.Stopped why) o t idle before going came falls = absurd came
-over_work P work past held (Some r) step.Idle o t idle before going came falls = absurd came
-over_work P work past held (Some r) step.Again o t idle before going came falls = absurd came
+over_work : (who : ℕ) (P : Work → Type 0) (work : Work) (past : List Event) (held : ℕ) (r : Option Running) (result : Step) (o : OpenerState) (t : ShareState) → P Idle → P work → (result ≡ step.Going → P o.work) →
+    CameTo who past held r result o → Falls work result o.work t → P o.work
+over_work who P work past held r step.Going o t idle before going came falls = going refl
+over_work who P work past held None step.Idle o t idle before going came falls = subst P (sym (idle_is o.work came.0)) idle
+over_work who P work past held (Some r) (step.Blocked holder) o t idle before going came same = subst P (sym same) before
+over_work who P work past held (Some r) (step.Answered a) o t idle before going came falls = subst P (sym came.0) idle
+over_work who P work past held (Some r) (step.Stopped why) o t idle before going came falls = subst P (sym came.0) idle
+over_work who P work past held None step.Again o t idle before going came falls = absurd came
+over_work who P work past held None (step.Blocked holder) o t idle before going came falls = absurd came
+over_work who P work past held None (step.Answered a) o t idle before going came falls = absurd came
+over_work who P work past held None (step.Stopped why) o t idle before going came falls = absurd came
+over_work who P work past held (Some r) step.Idle o t idle before going came falls = absurd came
+over_work who P work past held (Some r) step.Again o t idle before going came falls = absurd came
 
 -- what a step saw
-module _ (s t : Seated) (o o' : OpenerState) (tied : Tied o' (seat_state t)) (seat : t.who ≡ 1) (alone : AreSteps 1 t.region.past) (steady : s.region.failing.listed ≡ []) where
+module _ (who : ℕ) (s t : Seated) (o o' : OpenerState) (tied : Tied o' (seat_state t)) (live : NoneDies t.region.past) (steady : s.region.failing.listed ≡ []) where
   going_finds : (work : Work) (result : Step) → result ≡ step.Going → KeepsWork (record o { work = work }) result o' → HasCause work result o'.work (seat_state s) (seat_state t) →
       FoundSaw o'.work t.region.start t.region.past
   going_finds Idle result going keeps cause = let never : step.Going ≡ step.Idle = sym going ∙ keeps.0 in absurd cc
   going_finds Ended result going keeps cause = let never : step.Going ≡ step.Idle = sym going ∙ keeps.0 in absurd cc
   going_finds (Runs c at) result going keeps cause =
-      going_saw o' s t c at tied seat alone steady (subst (λ x. HasCause (Runs c at) x o'.work (seat_state s) (seat_state t)) going cause)
+      going_saw o' s t c at tied live steady (subst (λ x. HasCause (Runs c at) x o'.work (seat_state s) (seat_state t)) going cause)
 
-  step_saw : (work : Work) (held : ℕ) (r : Option Running) (result : Step) → FoundSaw work t.region.start t.region.past → CameTo t.region.past held r result o' →
+  step_saw : (work : Work) (held : ℕ) (r : Option Running) (result : Step) → FoundSaw work t.region.start t.region.past → CameTo who t.region.past held r result o' →
       KeepsWork (record o { work = work }) result o' → HasCause work result o'.work (seat_state s) (seat_state t) → Falls work result o'.work (seat_state t) →
       FoundSaw o'.work t.region.start t.region.past
   step_saw work held r result saw came keeps cause falls =
-      over_work (λ w. FoundSaw w t.region.start t.region.past) work t.region.past held r result o' (seat_state t) tt saw (λ going. going_finds work result going keeps cause) came falls
+      over_work who (λ w. FoundSaw w t.region.start t.region.past) work t.region.past held r result o' (seat_state t) tt saw (λ going. going_finds work result going keeps cause) came falls
 
   step_stopped_saw : (work : Work) (own made : List Event) (held : ℕ) (r : Option Running) (result : Step) → FoundSaw work t.region.start t.region.past →
-      FollowsWork work (option_map (going_on made) r) → CameTo t.region.past held (option_map (going_on own) (option_map (going_on made) r)) result o' →
+      FollowsWork work (option_map (going_on made) r) → CameTo who t.region.past held (option_map (going_on own) (option_map (going_on made) r)) result o' →
       HasCause work result o'.work (seat_state s) (seat_state t) → StoppedSaw result t.region.start t.region.past
   step_stopped_saw work own made held r step.Idle saw follows came cause = tt
   step_stopped_saw work own made held r step.Going saw follows came cause = tt
@@ -409,7 +398,7 @@ module _ (s t : Seated) (o o' : OpenerState) (tied : Tied o' (seat_state t)) (se
   step_stopped_saw Idle own made held (Some r) (step.Stopped why) saw follows came cause = absurd follows
   step_stopped_saw Ended own made held (Some r) (step.Stopped why) saw follows came cause = absurd follows
   step_stopped_saw (Runs c at) own made held (Some r) (step.Stopped why) saw follows came cause =
-      stopped_saw o' s t tied (ap is_storing came.0) seat alone c at (stop_found (Runs c at)) why steady saw cause
+      stopped_saw o' s t tied live c at (stop_found (Runs c at)) why steady saw cause
 
 saw_moved : (s t : Seated) → MakesOne (seat_state s) (seat_state t) → (work : Work) → FoundSaw work s.region.start s.region.past → FoundSaw work t.region.start t.region.past
 saw_moved s t makes work f =
@@ -417,59 +406,12 @@ saw_moved s t makes work f =
     subst (λ x. FoundSaw work x t.region.past) (sym m.start)
     (subst (λ p. FoundSaw work s.region.start p) (sym m.past) (saw_still work s.region.start (made_by s.who m.own) s.region.past f))
 
--- a call that found no places had made these events
-module _ (start : Region) (past : List Event) (held : ℕ) (before : Option Running) (first : Work) (n count : ℕ) (made : List Event) (o o' : OpenerState) (s t : Seated)
-    (below : n + 1 ≤ count) (st : Stepped start past held before first n step.Going made o s) (makes : MakesOne (seat_state s) (seat_state t)) (tied' : Tied o' (seat_state t)) where
-  met_full : (seat_state t).reserved t.who ≡ 0 → (work : Work) (b : Option Running) (result : Step) → before ≡ b → (result ≡ step.Idle → ⊥) → (seat_state s).holds ≡ lock_in o.holds work → IsAt o work → FollowsWork work (option_map (going_on made) b) →
-      KeepsWork (record o { work = work }) result o' → HasReason work stop.JournalFull (seat_state s) (seat_state t) → MetFull start past before count
-  met_full none Idle b result is busy holds at follows keeps reason = absurd (busy keeps.0)
-  met_full none Ended b result is busy holds at follows keeps reason = absurd (busy keeps.0)
-  met_full none (Runs c at) None result is busy holds is_at follows keeps reason = absurd follows
-  met_full none (Runs c at) (Some r) result is busy holds is_at follows keeps reason =
-      let m = moved s t makes in
-      let seat : t.who ≡ 1 = m.who ∙ st.seat in
-      let f = found_none o c at r s t st.seat seat holds is_at follows.call follows.moment reason in
-      let grows = f.stays.after.told in
-      let here : t.region.start ≡ start = grows.start ∙ st.start_is in
-      let same : t.region.past ≡ made ++ past = grows.past ∙ ap (λ x. x ++ s.region.past) (grows.none refl) ∙ st.past_is in
-      let full : IsTooFull 1 t.region.past f.asked = too_full t f.asked (λ w. m.admitted w ∙ st.only w) tied'.told.agrees (subst (λ w. (seat_state t).reserved w ≡ 0) seat none) f.full in
-      record {
-        call = r;
-        runs = is;
-        made = made;
-        few = omega (arith, st.few, below);
-        own = st.own;
-        asked = f.asked;
-        asks = subst (λ x. AsksFor x 1 r (made ++ past) f.asked) here (subst (λ p. AsksFor t.region.start 1 r p f.asked) same f.asks);
-        full = subst (λ p. IsTooFull 1 p f.asked) same full;
-      }
-
-  step_full : (r : Option Running) (result : Step) → CameTo t.region.past held r result o' → Tied o (seat_state s) → KeepsWork o result o' → HasCause o.work result o'.work (seat_state s) (seat_state t) → StoppedFull result start past before count
-  step_full r step.Idle came tied keeps cause = tt
-  step_full r step.Going came tied keeps cause = tt
-  step_full r step.Again came tied keeps cause = tt
-  step_full r (step.Blocked holder) came tied keeps cause = tt
-  step_full r (step.Answered a) came tied keeps cause = tt
-  step_full None (step.Stopped stop.JournalFull) came tied keeps cause = absurd came
-  step_full (Some r) (step.Stopped stop.JournalFull) came tied keeps cause =
-      met_full (subst (λ w. Owes o' w (seat_state t)) came.0 tied'.owes) o.work before (step.Stopped stop.JournalFull) refl (λ e. absurd cc) tied.holds tied.at st.came.0 keeps
-      (reason_now (stop_found o.work) o.work (seat_state s) (seat_state t) st.unfull cause)
-  step_full r (step.Stopped stop.Fault) came tied keeps cause = tt
-  step_full r (step.Stopped stop.Memory) came tied keeps cause = tt
-  step_full r (step.Stopped (stop.NotWhole seen)) came tied keeps cause = tt
-  step_full r (step.Stopped (stop.Version n)) came tied keeps cause = tt
-  step_full r (step.Stopped (stop.Flags n)) came tied keeps cause = tt
-  step_full r (step.Stopped (stop.Full need)) came tied keeps cause = tt
-  step_full r (step.Stopped stop.SequenceEnd) came tied keeps cause = tt
-  step_full r (step.Stopped stop.ExpiryOff) came tied keeps cause = tt
-  step_full r (step.Stopped stop.ExpiryRange) came tied keeps cause = tt
-
--- what a step of opener 1 counts
-counted_at : (s t : Seated) → s.who ≡ 1 → (makes : MakesOne (seat_state s) (seat_state t)) → Lawful t.region.start t.region.past → (result : Step) (work after : Work) →
-    AddsTo 1 work result after (seat_state s) (seat_state t) → CountedAt work (made_by 1 (moved s t makes).own) result after
-counted_at s t one makes lawful result Idle after adds = tt
-counted_at s t one makes lawful result Ended after adds = tt
-counted_at s t one makes lawful result (Runs c at) after adds =
+-- what a step counts
+counted_at : (who : ℕ) (s t : Seated) → s.who ≡ who → (makes : MakesOne (seat_state s) (seat_state t)) → Lawful t.region.start t.region.past → (result : Step) (work after : Work) →
+    AddsTo who work result after (seat_state s) (seat_state t) → CountedAt work (made_by who (moved s t makes).own) result after
+counted_at who s t one makes lawful result Idle after adds = tt
+counted_at who s t one makes lawful result Ended after adds = tt
+counted_at who s t one makes lawful result (Runs c at) after adds =
     let m = moved s t makes in
     let is : t.region.past ≡ made_by s.who adds.own ++ s.region.past = adds.grows.past ∙ ap (λ x. made_by s.who adds.own ++ (x ++ s.region.past)) (adds.grows.none refl) in
     let events : made_by s.who adds.own ≡ made_by s.who m.own = append_cancel_right (made_by s.who adds.own) (made_by s.who m.own) s.region.past (sym is ∙ m.past) in
@@ -481,93 +423,170 @@ counted_at s t one makes lawful result (Runs c at) after adds =
       stores = stores_in adds.own;
       locks = locks_taken (seat_state s).holds (seat_state t).holds;
       counts = adds.counts;
-      few = omega (arith, m.few, length-map m.own (event_by 1));
+      few = omega (arith, m.few, length-map m.own (event_by who));
       stores_are = stores_of_own s.who adds.own ∙ ap stores_among events ∙ ap (λ w. stores_among (made_by w m.own)) one;
       locks_are = locks ∙ ap (λ w. locks_among (made_by w m.own)) one;
     }
 
 -- the stores of a step are those of its events
-stores_made : (s t : Seated) → s.who ≡ 1 → (makes : MakesOne (seat_state s) (seat_state t)) (own : List What) → made_by s.who own ++ s.region.past ≡ t.region.past →
-    stores_among (made_by 1 (moved s t makes).own) ≡ stores_in own
-stores_made s t one makes own is =
+stores_made : (who : ℕ) (s t : Seated) → s.who ≡ who → (makes : MakesOne (seat_state s) (seat_state t)) (own : List What) → made_by s.who own ++ s.region.past ≡ t.region.past →
+    stores_among (made_by who (moved s t makes).own) ≡ stores_in own
+stores_made who s t one makes own is =
     let m = moved s t makes in
     let events : made_by s.who own ≡ made_by s.who m.own = append_cancel_right (made_by s.who own) (made_by s.who m.own) s.region.past (is ∙ m.past) in
     sym (stores_of_own s.who own ∙ ap stores_among events ∙ ap (λ w. stores_among (made_by w m.own)) one)
 
--- one step more
-pub one_more : (start : Region) (past : List Event) (held : ℕ) (before : Option Running) (first : Work) (n : ℕ) (made : List Event)
-    (o o' : OpenerState) (s t : Seated) (result : Step) →
-    Stepped start past held before first n step.Going made o s → Tied o (seat_state s) → Tied o' (seat_state t) →
-    MakesOne (seat_state s) (seat_state t) → AddsTo o.who o.work result o'.work (seat_state s) (seat_state t) → KeepsWork o result o' →
-    HasCause o.work result o'.work (seat_state s) (seat_state t) → Falls o.work result o'.work (seat_state t) →
-    OnAnswer result (λ a. OnTold (seat_state t).told (λ h. IsAnswer a h.start h.past)) → (result ≡ step.Going → IsUnfull o'.work) →
-    Settles o result o' (seat_state s) (seat_state t) → (more : List Event) × Stepped start past held before first (n + 1) result more o' t
-one_more start past held before first n made o o' s t result st tied tied' makes adds keeps cause falls answer unfull settles =
-    let m = moved s t makes in
-    let own = made_by 1 m.own in
-    let grown : t.region.past ≡ own ++ s.region.past = m.past ∙ ap (λ w. made_by w m.own ++ s.region.past) st.seat in
-    let seat : t.who ≡ 1 = m.who ∙ st.seat in
-    let came = step_came s t seat st.steady o o' o.work (option_map (going_on made) before) own held result st.who st.came.1 tied.at st.came.0
-    (counted_at s t st.seat makes tied'.told.agrees.lawful result o.work o'.work (subst (λ w. AddsTo w o.work result o'.work (seat_state s) (seat_state t)) st.who adds)) keeps cause answer in
-    let alive : has_died t.region.past t.who ≡ false =
-    right_false (not (account_of t.region.accounts t.who).admitted) (has_died t.region.past t.who)
-    (tied'.ended ∙ came_alive t.region.past held (option_map (going_on own) (option_map (going_on made) before)) result o' came) in
-    let alive_now : has_died (own ++ s.region.past) 1 ≡ false = sym (ap (λ x. has_died x 1) grown) ∙ sym (ap (has_died t.region.past) seat) ∙ alive in
-    let begun_now = begun_later s t makes o.work (begun_of o s tied) in
-    let alone : AreSteps 1 t.region.past = subst (AreSteps 1) (sym grown) (steps_join 1 own s.region.past (own_steps 1 m.own s.region.past alive_now) st.alone) in
-    let goes_by = option_map (going_on own) (option_map (going_on made) before) in (
-      own ++ made,
+-- One step more.
+module _ (who opened : ℕ) (start : Region) (past : List Event) (held : ℕ) (before : Option Running) (first : Work) (n : ℕ) (made : List Event) (o o' : OpenerState) (old new : WorldState) (result : Step)
+    (sound : IsSound new) (all : opened ≡ length new.openers) (st : Stepped who opened start past held before first n step.Going made o (seat_at who old.region))
+    (tied : Tied o (share_of old.region who)) (tied' : Tied o' (share_of new.region who)) (steps : Steps who o o' result old new) where
+  abbrev s : Seated
+  s = seat_at who old.region
+
+  abbrev t : Seated
+  t = seat_at who new.region
+
+  abbrev m : Moved s t
+  m = moved s t steps.makes
+
+  abbrev pub own : List Event
+  own = made_by who m.own
+
+  grown : t.region.past ≡ own ++ s.region.past
+  grown = m.past
+
+  open_now : IsOpenTo opened new.region
+  open_now w least = m.admitted w ∙ st.open_to w least
+
+  adds : AddsTo who o.work result o'.work (seat_state s) (seat_state t)
+  adds = subst (λ w. AddsTo w o.work result o'.work (seat_state s) (seat_state t)) st.number steps.adds
+
+  abbrev goes_by : Option Running
+  goes_by = option_map (going_on own) (option_map (going_on made) before)
+
+  came : CameTo who t.region.past held goes_by result o'
+  came =
+      step_came who s t refl st.steady o o' o.work (option_map (going_on made) before) own held result st.number st.came.1 tied.at st.came.0
+      (counted_at who s t refl steps.makes tied'.told.agrees.lawful result o.work o'.work adds) steps.call steps.cause steps.answer
+
+  alive : has_died (own ++ s.region.past) who ≡ false
+  alive =
+      sym (ap (λ x. has_died x who) grown)
+      ∙ right_false (not (account_of t.region.accounts t.who).admitted) (has_died t.region.past t.who) (tied'.ended ∙ came_alive who t.region.past held goes_by result o' came)
+
+  pub lives_on : is_ended o'.work ≡ false
+  lives_on = came_alive who t.region.past held goes_by result o' came
+
+  own_are : AreSteps who own
+  own_are = own_steps who m.own s.region.past alive
+
+  live : NoneDies t.region.past
+  live = subst NoneDies (sym grown) (live_join who own s.region.past own_are st.live)
+
+  begun_now : HasBegun o.work t.region.past
+  begun_now = begun_later s t steps.makes o.work (begun_of o s tied)
+
+  -- a call that found no places had made these events
+  met_full : (seat_state t).reserved who ≡ 0 → (count : ℕ) → n + 1 ≤ count → (work : Work) (b : Option Running) → before ≡ b → (result ≡ step.Idle → ⊥) → (seat_state s).holds ≡ lock_in o.holds work → IsAt o work →
+      FollowsWork work (option_map (going_on made) b) → KeepsWork (record o { work = work }) result o' → HasReason work stop.JournalFull (seat_state s) (seat_state t) → MetFull who opened start past before count
+  met_full none count below Idle b is busy holds at follows keeps reason = absurd (busy keeps.0)
+  met_full none count below Ended b is busy holds at follows keeps reason = absurd (busy keeps.0)
+  met_full none count below (Runs c at) None is busy holds is_at follows keeps reason = absurd follows
+  met_full none count below (Runs c at) (Some r) is busy holds is_at follows keeps reason =
+      let f = found_none who o c at r s t refl refl holds is_at follows.call follows.moment reason in
+      let grows = f.stays.after.told in
+      let here : t.region.start ≡ start = grows.start ∙ st.start_is in
+      let same : t.region.past ≡ made ++ past = grows.past ∙ ap (λ x. x ++ s.region.past) (grows.none refl) ∙ st.past_is in
+      let full : IsTooFull opened t.region.past f.asked = too_full new sound opened open_now all f.asked (λ v. nobody f.asked f.asks v (eqb_tells v.number who)) f.full in
       record {
-        few = omega (arith, length-append own made, length-map m.own (event_by 1), m.few, st.few);
-        own = steps_join 1 own made (own_steps 1 m.own s.region.past alive_now) st.own;
-        idle = λ none. let still : t.region.past ≡ s.region.past = idle_makes_none s t o o' o.work result (subst (λ b. FollowsWork o.work (option_map (going_on made) b)) none st.came.0) keeps cause in
+        call = r;
+        runs = is;
+        made = made;
+        few = omega (arith, st.few, below);
+        own = st.own;
+        asked = f.asked;
+        asks = subst (λ x. AsksFor x who r (made ++ past) f.asked) here (subst (λ p. AsksFor t.region.start who r p f.asked) same f.asks);
+        full = subst (λ p. IsTooFull opened p f.asked) same full;
+      }
+    where
+      nobody : (asked : ℕ) → AsksFor t.region.start who r t.region.past asked → (v : Reserver new sound opened open_now all) →
+          ((eqb v.number who ≡ true) × (v.number ≡ who)) ⊎ ((eqb v.number who ≡ false) × (v.number ≢ who)) → ⊥
+      nobody asked asks v (inl same) = let some : 0 < (seat_state t).reserved who = subst (λ w. 0 < (seat_state t).reserved w) same.1 v.some in absurd (omega (arith, some, none))
+      nobody asked asks v (inr apart) = alone_asks t.region.start who asked r t.region.past asks v.number apart.1 v.holds
+
+  step_full : (count : ℕ) → n + 1 ≤ count → (r : Option Running) (result' : Step) → result ≡ result' → CameTo who t.region.past held r result' o' → StoppedFull who opened result' start past before count
+  step_full count below r step.Idle is came = tt
+  step_full count below r step.Going is came = tt
+  step_full count below r step.Again is came = tt
+  step_full count below r (step.Blocked holder) is came = tt
+  step_full count below r (step.Answered a) is came = tt
+  step_full count below None (step.Stopped stop.JournalFull) is came = absurd came
+  step_full count below (Some r) (step.Stopped stop.JournalFull) is came =
+      met_full (subst (λ w. Owes o' w (seat_state t)) came.0 tied'.owes) count below o.work before refl (λ e. let both : step.Stopped stop.JournalFull ≡ step.Idle = sym is ∙ e in absurd cc) tied.holds tied.at st.came.0 steps.call
+      (reason_now (stop_found o.work) o.work (seat_state s) (seat_state t) st.unfull (subst (λ x. HasCause o.work x o'.work (seat_state s) (seat_state t)) is steps.cause))
+  step_full count below r (step.Stopped stop.Fault) is came = tt
+  step_full count below r (step.Stopped stop.Memory) is came = tt
+  step_full count below r (step.Stopped (stop.NotWhole seen)) is came = tt
+  step_full count below r (step.Stopped (stop.Version v)) is came = tt
+  step_full count below r (step.Stopped (stop.Flags v)) is came = tt
+  step_full count below r (step.Stopped (stop.Full need)) is came = tt
+  step_full count below r (step.Stopped stop.SequenceEnd) is came = tt
+  step_full count below r (step.Stopped stop.ExpiryOff) is came = tt
+  step_full count below r (step.Stopped stop.ExpiryRange) is came = tt
+
+  pub one_more : (result ≡ step.Going → IsUnfull o'.work) → Stepped who opened start past held before first (n + 1) result (own ++ made) o' t
+  one_more unfull =
+      record {
+        few = omega (arith, length-append own made, length-map m.own (event_by who), m.few, st.few);
+        own = steps_join who own made own_are st.own;
+        idle = λ none. let still : t.region.past ≡ s.region.past = idle_makes_none s t o o' o.work result (subst (λ b. FollowsWork o.work (option_map (going_on made) b)) none st.came.0) steps.call steps.cause in
             ap (λ x. x ++ made) (no_events own s.region.past (sym grown ∙ still)) ∙ st.idle none;
-        who = sym tied'.who ∙ seat;
-        seat = seat;
+        number = sym tied'.who;
+        seat = refl;
         start_is = m.start ∙ st.start_is;
         past_is = grown ∙ ap (λ x. own ++ x) st.past_is ∙ sym (append_assoc own made past);
         steady = m.listed ∙ st.steady;
-        answer = answer;
-        came = subst (λ r. CameTo t.region.past held r result o') (going_twice own made before) came;
-        settled = step_settled start past first o o' s t result st.who (sym tied'.who ∙ seat) st.settled settles;
-        fewer = step_fewer s t makes first o.work o'.work n result tied'.told.agrees.lawful falls st.fewer;
-        found = step_found s t o o' o.work result (moved_later s t makes o.work st.found) begun_now keeps cause falls;
-        stopped = step_stopped s t o o' o.work result made before (moved_later s t makes o.work st.found) begun_now st.came.0 keeps cause;
-        alone = alone;
-        only = λ w. m.admitted w ∙ st.only w;
-        saw = step_saw s t o o' tied' seat alone st.steady o.work held goes_by result (saw_moved s t makes o.work st.saw) came keeps cause falls;
-        stopped_saw = step_stopped_saw s t o o' tied' seat alone st.steady o.work own made held before result (saw_moved s t makes o.work st.saw) st.came.0 came cause;
-        unfull = over_work IsUnfull o.work t.region.past held goes_by result o' (seat_state t) (λ e. absurd cc) st.unfull unfull came falls;
+        answer = steps.answer;
+        came = subst (λ r. CameTo who t.region.past held r result o') (going_twice own made before) came;
+        fewer = step_fewer s t steps.makes first o.work o'.work n result tied'.told.agrees.lawful steps.falls st.fewer;
+        found = step_found s t o o' o.work result (moved_later s t steps.makes o.work st.found) begun_now steps.call steps.cause steps.falls;
+        stopped = step_stopped s t o o' o.work result made before (moved_later s t steps.makes o.work st.found) begun_now st.came.0 steps.call steps.cause;
+        live = live;
+        open_to = open_now;
+        saw = step_saw who s t o o' tied' live st.steady o.work held goes_by result (saw_moved s t steps.makes o.work st.saw) came steps.call steps.cause steps.falls;
+        stopped_saw = step_stopped_saw who s t o o' tied' live st.steady o.work own made held before result (saw_moved s t steps.makes o.work st.saw) st.came.0 came steps.cause;
+        unfull = over_work who IsUnfull o.work t.region.past held goes_by result o' (seat_state t) (λ e. absurd cc) st.unfull unfull came steps.falls;
         stored = subst (HasStored result o'.work) (going_twice own made before)
-            (step_stored s t o.work o'.work result (option_map (going_on made) before) own st.came.0 (subst (λ w. AddsTo w o.work result o'.work (seat_state s) (seat_state t)) st.who adds)
-            (λ whats is. stores_made s t st.seat makes whats is) st.stored);
-        full = step_full start past held before first n (n + 1) made o o' s t (omega arith) st makes tied' goes_by result came tied keeps cause;
-      },
-    )
+            (step_stored who s t o.work o'.work result (option_map (going_on made) before) own st.came.0 adds (λ whats is. stores_made who s t refl steps.makes whats is) st.stored);
+        full = step_full (n + 1) (omega arith) goes_by result refl came;
+      }
 
-pub seat_stays : (s t : Seated) → MakesOne (seat_state s) (seat_state t) → t.who ≡ s.who
-seat_stays s t makes = (moved s t makes).who
+  -- a step that goes on, but has found no places for what it wants
+  pub full_met : (count : ℕ) → n + 1 ≤ count → result ≡ step.Going → stop_found o'.work ≡ Some stop.JournalFull → MetFull who opened start past before count
+  full_met count below going found =
+      met_full ((at_stop o' o'.work (seat_state t) stop.JournalFull found).1 tied'.owes) count below o.work before refl (λ e. let both : step.Going ≡ step.Idle = sym going ∙ e in absurd cc) tied.holds tied.at st.came.0 steps.call
+      (subst (λ x. IfSome x (λ why. HasReason o.work why (seat_state s) (seat_state t))) found (subst (λ x. HasCause o.work x o'.work (seat_state s) (seat_state t)) going steps.cause))
 
-pub at_most : (start : Region) (past : List Event) (held : ℕ) (before : Option Running) (first : Work) (n count : ℕ) (result : Step) (made : List Event) (o : OpenerState) (s : Seated) →
-    n ≤ count → (result ≡ step.Going → n ≡ count) → Stepped start past held before first n result made o s → Stepped start past held before first count result made o s
-at_most start past held before first n count result made o s below all st =
+-- so many steps at most
+pub at_most : (who opened : ℕ) (start : Region) (past : List Event) (held : ℕ) (before : Option Running) (first : Work) (n count : ℕ) (result : Step) (made : List Event) (o : OpenerState) (s : Seated) →
+    n ≤ count → (result ≡ step.Going → n ≡ count) → Stepped who opened start past held before first n result made o s → Stepped who opened start past held before first count result made o s
+at_most who opened start past held before first n count result made o s below all st =
     record {
       few = omega (arith, st.few, below);
       own = st.own;
       idle = st.idle;
-      who = st.who;
+      number = st.number;
       seat = st.seat;
       start_is = st.start_is;
       past_is = st.past_is;
       steady = st.steady;
       answer = st.answer;
       came = st.came;
-      settled = st.settled;
       fewer = go result all st.fewer;
       found = st.found;
       stopped = st.stopped;
-      alone = st.alone;
-      only = st.only;
+      live = st.live;
+      open_to = st.open_to;
       saw = st.saw;
       stopped_saw = st.stopped_saw;
       unfull = st.unfull;
@@ -575,7 +594,7 @@ at_most start past held before first n count result made o s below all st =
       stored = st.stored;
     }
   where
-    met_by : (last : Step) → StoppedFull last start past before n → StoppedFull last start past before count
+    met_by : (last : Step) → StoppedFull who opened last start past before n → StoppedFull who opened last start past before count
     met_by step.Idle full = tt
     met_by step.Going full = tt
     met_by step.Again full = tt
@@ -604,28 +623,3 @@ at_most start past held before first n count result made o s below all st =
     go (step.Answered a) all fewer = tt
     go (step.Stopped why) all fewer = tt
 
--- one step more on the way
-pub step_more : (count n : ℕ) (o1 : OpenerState) (s1 : Seated) (o o' : OpenerState) (s t : Seated) (result : Step) → n + 1 ≤ count → (result ≡ step.Going → n + 1 ≡ count) →
-    ((start : Region) (past : List Event) (held : ℕ) (before : Option Running) → Stepped start past held before o1.work 0 step.Going [] o1 s1 →
-    (made : List Event) × Stepped start past held before o1.work n step.Going made o s) → Tied o (seat_state s) → Tied o' (seat_state t) →
-    MakesOne (seat_state s) (seat_state t) → AddsTo o.who o.work result o'.work (seat_state s) (seat_state t) → KeepsWork o result o' →
-    HasCause o.work result o'.work (seat_state s) (seat_state t) → Falls o.work result o'.work (seat_state t) →
-    OnAnswer result (λ a. OnTold (seat_state t).told (λ h. IsAnswer a h.start h.past)) → (result ≡ step.Going → IsUnfull o'.work) →
-    Settles o result o' (seat_state s) (seat_state t) → (start : Region) (past : List Event) (held : ℕ) (before : Option Running) → Stepped start past held before o1.work 0 step.Going [] o1 s1 →
-    (made : List Event) × Stepped start past held before o1.work count result made o' t
-step_more count n o1 s1 o o' s t result below all so_far tied tied' makes adds keeps cause falls answer unfull settles start past held before first =
-    let now = so_far start past held before first in
-    let next = one_more start past held before o1.work n now.0 o o' s t result now.1 tied tied' makes adds keeps cause falls answer unfull settles in
-    (next.0, at_most start past held before o1.work (n + 1) count result next.0 o' t below all next.1)
-
--- a step that goes on, but has found no places for what it wants
-pub full_met : (count n : ℕ) (o1 : OpenerState) (s1 : Seated) (o o' : OpenerState) (s t : Seated) → n + 1 ≤ count →
-    ((start : Region) (past : List Event) (held : ℕ) (before : Option Running) → Stepped start past held before o1.work 0 step.Going [] o1 s1 →
-    (made : List Event) × Stepped start past held before o1.work n step.Going made o s) → Tied o (seat_state s) → Tied o' (seat_state t) →
-    MakesOne (seat_state s) (seat_state t) → KeepsWork o step.Going o' → HasCause o.work step.Going o'.work (seat_state s) (seat_state t) → stop_found o'.work ≡ Some stop.JournalFull →
-    (start : Region) (past : List Event) (held : ℕ) (before : Option Running) → Stepped start past held before o1.work 0 step.Going [] o1 s1 → MetFull start past before count
-full_met count n o1 s1 o o' s t below so_far tied tied' makes keeps cause found start past held before first =
-    let now = so_far start past held before first in
-    met_full start past held before o1.work n count now.0 o o' s t below now.1 makes tied' ((at_stop o' o'.work (seat_state t) stop.JournalFull found).1 tied'.owes)
-    o.work before step.Going refl (λ e. absurd cc) tied.holds tied.at now.1.came.0 keeps
-    (subst (λ x. IfSome x (λ why. HasReason o.work why (seat_state s) (seat_state t))) found cause)

@@ -21,7 +21,7 @@ use Rattle.script_lang.specs.declared.outcome.Outcome.{Outcome}
 use Rattle.script_lang.specs.declared.outcome.Reason.{Reason}
 use Rattle.mmkv_top.specs.Parts.{Running, going_on, stepped, stores_among}
 use Rattle.mmkv_top.specs.Played.{reason_said}
-use Rattle.mmkv_top.specs.Player.{CameTo, FollowsWork, HasStored, IsOutcomeAt}
+use Rattle.mmkv_top.specs.Progress.{CameTo, FollowsWork, HasStored, IsOutcomeAt}
 use Rattle.mmkv_top.proofs.Counting.{filter_join}
 
 -- stores are among the stores and growths
@@ -34,13 +34,13 @@ stores_within (Unlock ∷ own) = stores_within own
 stores_within (Died torn ∷ own) = stores_within own
 
 -- after a step of a call, whose events were these
-pub step_stored : (s t : Seated) (work after : Work) (result : Step) (r : Option Running) (events : List Event) → FollowsWork work r → AddsTo 1 work result after (seat_state s) (seat_state t) →
+pub step_stored : (who : ℕ) (s t : Seated) (work after : Work) (result : Step) (r : Option Running) (events : List Event) → FollowsWork work r → AddsTo who work result after (seat_state s) (seat_state t) →
     ((own : List What) → made_by s.who own ++ s.region.past ≡ t.region.past → stores_among events ≡ stores_in own) →
     HasStored step.Going work r → HasStored result after (option_map (going_on events) r)
-step_stored s t work after result None events follows adds same stored = tt
-step_stored s t Idle after result (Some r) events follows adds same stored = absurd follows
-step_stored s t Ended after result (Some r) events follows adds same stored = absurd follows
-step_stored s t (Runs c at) after result (Some r) events follows adds same stored =
+step_stored who s t work after result None events follows adds same stored = tt
+step_stored who s t Idle after result (Some r) events follows adds same stored = absurd follows
+step_stored who s t Ended after result (Some r) events follows adds same stored = absurd follows
+step_stored who s t (Runs c at) after result (Some r) events follows adds same stored =
     let made = same adds.own (sym (adds.grows.past ∙ ap (λ x. made_by s.who adds.own ++ (x ++ s.region.past)) (adds.grows.none refl))) in (
       stored.0 ++ filter changes_region adds.own,
       omega (arith, made, stored.1, stores_within adds.own, filter_join (λ e. is_store e.what) events r.since, length-append stored.0 (filter changes_region adds.own)),
@@ -81,17 +81,17 @@ stops_stored (stop.Version n) said work r is stored = absurd cc
 stops_stored (stop.Flags n) said work r is stored = absurd cc
 
 -- after a line
-pub line_stored : (past : List Event) (held : ℕ) (r : Option Running) (last : Step) (o : OpenerState) (outcome : Option Outcome) → CameTo past held r last o → IsOutcomeAt last outcome →
+pub line_stored : (who : ℕ) (past : List Event) (held : ℕ) (r : Option Running) (last : Step) (o : OpenerState) (outcome : Option Outcome) → CameTo who past held r last o → IsOutcomeAt who last outcome →
     HasStored last o.work r → HasStored step.Going o.work (option_and_then (stepped outcome) r)
-line_stored past held None step.Going o outcome came at stored = tt
-line_stored past held (Some r) step.Going o outcome came at stored = subst (λ x. HasStored step.Going o.work (option_and_then (stepped x) (Some r))) (sym at) stored
-line_stored past held None step.Idle o outcome came at stored = tt
-line_stored past held (Some r) (step.Blocked holder) o outcome came at stored = subst (λ x. HasStored step.Going o.work (option_and_then (stepped x) (Some r))) (sym at) stored
-line_stored past held (Some r) (step.Answered a) o outcome came at stored = subst (λ x. HasStored step.Going o.work (option_and_then (stepped x) (Some r))) (sym at) tt
-line_stored past held (Some r) (step.Stopped why) o outcome came at stored = subst (λ x. HasStored step.Going o.work (option_and_then (stepped x) (Some r))) (sym at.1) tt
-line_stored past held None step.Again o outcome came at stored = absurd came
-line_stored past held None (step.Blocked holder) o outcome came at stored = absurd came
-line_stored past held None (step.Answered a) o outcome came at stored = absurd came
-line_stored past held None (step.Stopped why) o outcome came at stored = absurd came
-line_stored past held (Some r) step.Idle o outcome came at stored = absurd came
-line_stored past held (Some r) step.Again o outcome came at stored = absurd came
+line_stored who past held None step.Going o outcome came at stored = tt
+line_stored who past held (Some r) step.Going o outcome came at stored = subst (λ x. HasStored step.Going o.work (option_and_then (stepped x) (Some r))) (sym at) stored
+line_stored who past held None step.Idle o outcome came at stored = tt
+line_stored who past held (Some r) (step.Blocked holder) o outcome came at stored = subst (λ x. HasStored step.Going o.work (option_and_then (stepped x) (Some r))) (sym at) stored
+line_stored who past held (Some r) (step.Answered a) o outcome came at stored = subst (λ x. HasStored step.Going o.work (option_and_then (stepped x) (Some r))) (sym at) tt
+line_stored who past held (Some r) (step.Stopped why) o outcome came at stored = subst (λ x. HasStored step.Going o.work (option_and_then (stepped x) (Some r))) (sym at.1) tt
+line_stored who past held None step.Again o outcome came at stored = absurd came
+line_stored who past held None (step.Blocked holder) o outcome came at stored = absurd came
+line_stored who past held None (step.Answered a) o outcome came at stored = absurd came
+line_stored who past held None (step.Stopped why) o outcome came at stored = absurd came
+line_stored who past held (Some r) step.Idle o outcome came at stored = absurd came
+line_stored who past held (Some r) step.Again o outcome came at stored = absurd came

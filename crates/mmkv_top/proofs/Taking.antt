@@ -9,15 +9,16 @@ use Rattle.script_lang.proofs.OneMeaning.{names_one_thing}
 use Rattle.mmkv_top.specs.declared.halt.Halt.{Halt}
 use Rattle.mmkv_top.specs.declared.halt.Halt.TheVariants as halt
 use Rattle.mmkv_top.specs.declared.limits.TheConstants.{LARGEST_COUNT, LARGEST_LINE}
-use Rattle.mmkv_top.specs.State.{PlayerState}
+use Rattle.mmkv_top.specs.State.{PlayState}
 use Rattle.mmkv_top.specs.Parts.{Part, lines_of}
 use Rattle.mmkv_top.specs.Played.{Stock}
 use Rattle.mmkv_top.specs.Play.{AreLines, CanTake, IsPlayedTo, IsFirstRefused, IsRefusedNext}
-use Rattle.mmkv_top.specs.Player.{IsAt, IsReady, Takes, TakesText, TextHalts, TakesOrHalts, IsTaken, HaltsAt}
+use Rattle.world.specs.World.{IsSound}
+use Rattle.mmkv_top.specs.Progress.{IsAt, Takes, TakesText, TextHalts, TakesOrHalts, IsTaken, HaltsAt}
 use Rattle.mmkv_top.proofs.Judged.{journal_of}
 
 -- a line that was read is taken, or ends the play
-pub text_takes : {A : Type 0} (stock left : Stock) (start : Region) (parts : List Part) (count : ℕ) (text : List ℕ) (q : PlayerState) (line : Option Line) (result : Result A Halt) →
+pub text_takes : {A : Type 0} (stock left : Stock) (start : Region) (parts : List Part) (count : ℕ) (text : List ℕ) (q : PlayState) (line : Option Line) (result : Result A Halt) →
     count < LARGEST_COUNT → length text ≤ LARGEST_LINE → IsLine text line → Takes stock left start parts line q result → TakesOrHalts stock left start parts count text q result
 text_takes stock left start parts count text q line (Ok x) few short is takes = record { few = few; short = short; named = line; is = is; one = takes }
 text_takes stock left start parts count text q line (Err halt.Refused) few short is takes =
@@ -32,7 +33,7 @@ lines_more (first ∷ texts) lines text line are is =
     (are.0, are.1 ++ line ∷ [], ap (λ x. x ++ line ∷ []) are.2, are.3, lines_more texts are.1 text line are.4 is)
 
 -- nothing was taken of these texts
-pub none_taken : (stock left : Stock) (start : Region) (texts : List (List ℕ)) (p : PlayerState) → IsAt stock left start [] p → IsTaken stock left start texts texts p 0
+pub none_taken : (stock left : Stock) (start : Region) (texts : List (List ℕ)) (p : PlayState) → IsAt stock left start [] p → IsTaken stock left start texts texts p 0
 none_taken stock left start texts p at =
     record {
       parts = [];
@@ -41,7 +42,7 @@ none_taken stock left start texts p at =
     }
 
 -- one more text was taken
-pub one_taken : (stock before left : Stock) (start : Region) (texts rest : List (List ℕ)) (text : List ℕ) (p q : PlayerState) (count : ℕ)
+pub one_taken : (stock before left : Stock) (start : Region) (texts rest : List (List ℕ)) (text : List ℕ) (p q : PlayState) (count : ℕ)
     (taken : IsTaken stock before start texts (text ∷ rest) p count) → TakesText stock left start taken.parts count text q → IsTaken stock left start texts rest q (count + 1)
 one_taken stock before left start texts rest text p q count taken takes =
     let so_far = taken.taken in
@@ -57,7 +58,7 @@ one_taken stock before left start texts rest text p q count taken takes =
       at = takes.one.2;
     }
 
-played_to : (stock left : Stock) (start : Region) (texts rest : List (List ℕ)) (p : PlayerState) (count : ℕ) → IsReady p → IsTaken stock left start texts rest p count →
+played_to : (stock left : Stock) (start : Region) (texts rest : List (List ℕ)) (p : PlayState) (count : ℕ) → IsSound p.world → IsTaken stock left start texts rest p count →
     IsPlayedTo stock start texts rest (count + 1)
 played_to stock left start texts rest p count ready taken =
     record {
@@ -71,7 +72,7 @@ played_to stock left start texts rest p count ready taken =
     }
 
 -- the next text ended the play
-pub stops_there : (stock left : Stock) (start : Region) (texts rest : List (List ℕ)) (text : List ℕ) (p : PlayerState) (count : ℕ) (why : Halt) → IsReady p →
+pub stops_there : (stock left : Stock) (start : Region) (texts rest : List (List ℕ)) (text : List ℕ) (p : PlayState) (count : ℕ) (why : Halt) → IsSound p.world →
     (taken : IsTaken stock left start texts (text ∷ rest) p count) → TextHalts stock start taken.parts count text why → HaltsAt stock start texts false (count + 1) why
 unfolding played_to
 stops_there stock left start texts rest text p count halt.Refused ready taken halts =
@@ -87,7 +88,7 @@ stops_there stock left start texts rest text p count halt.NotWhole ready taken h
     (record { text = text; rest = rest; named = halts.0; before = played_to stock left start texts (text ∷ rest) p count ready taken; is = halts.1; can = halts.2 }, halts.3)
 
 -- where all was taken, the line that lies beyond is the first that is refused
-pub beyond_all : (stock left : Stock) (start : Region) (texts : List (List ℕ)) (p : PlayerState) (count : ℕ) → IsReady p → IsTaken stock left start texts [] p count →
+pub beyond_all : (stock left : Stock) (start : Region) (texts : List (List ℕ)) (p : PlayState) (count : ℕ) → IsSound p.world → IsTaken stock left start texts [] p count →
     IsFirstRefused stock start texts true (count + 1)
 beyond_all stock left start texts p count ready taken =
     record { rest = []; before = played_to stock left start texts [] p count ready taken; refused = refl }

@@ -5,5 +5,5 @@ pub mod Played
 pub mod Play
 pub mod Halting
 pub mod State
-pub mod Player
+pub mod Progress
 pub mod Due

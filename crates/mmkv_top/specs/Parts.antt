@@ -80,7 +80,7 @@ stores_among events = length (filter (λ e. is_store e.what) events)
 abbrev pub locks_among : List Event → ℕ
 locks_among events = length (filter (λ e. is_lock e.what) events)
 
--- a call that runs: what was asked, the events before it began and those since
+-- a call that runs: what was asked, the events before it began, and those of its opener since
 pub record Running : Type 0 where
   pub call : Call
   pub now : ℕ
@@ -105,10 +105,14 @@ running_after _ outcome who past before = before
 abbrev pub going_on : List Event → Running → Running
 going_on made c = record c { since = made ++ c.since }
 
+-- the events of an opener among these
+abbrev pub own_of : ℕ → List Event → List Event
+own_of who events = filter (λ e. e.who == who) events
+
 -- the call of an opener that runs after these lines
 abbrev pub running : ℕ → List Part → Option Running
 running who [] = None
-running who (p ∷ parts) = running_after p.line p.outcome who (past_of parts) (option_map (going_on p.made) (running who parts))
+running who (p ∷ parts) = running_after p.line p.outcome who (past_of parts) (option_map (going_on (own_of who p.made)) (running who parts))
 
 -- the steps that the lines asked of an opener's call, since it began or was last blocked, after one line more
 abbrev pub asked_after : Option Line → Option Outcome → ℕ → ℕ → ℕ

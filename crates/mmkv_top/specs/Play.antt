@@ -44,20 +44,20 @@ abbrev pub AreLines : List (List ℕ) → List (Option Line) → Type 0
 AreLines [] lines = lines ≡ []
 AreLines (text ∷ texts) lines = (l : Option Line) × (rest : List (Option Line)) × (lines ≡ l ∷ rest) × IsLine text l × AreLines texts rest
 
--- so far there is one opener, which doesn't die and leaves the expiry as it is
-abbrev pub IsPlayable : List Part → Line → Type 0
-IsPlayable parts (Open strategy) = strategies parts ≡ []
-IsPlayable parts (Begin who now call) = IsBuilt call
-IsPlayable parts (Step who count) = ⊤
-IsPlayable parts (Die who bits) = ⊥
-IsPlayable parts (Next who now call) = ⊥
+-- so far no opener dies, and none switches the expiry
+abbrev pub IsPlayable : Line → Type 0
+IsPlayable (Open strategy) = ⊤
+IsPlayable (Begin who now call) = IsBuilt call
+IsPlayable (Step who count) = ⊤
+IsPlayable (Die who bits) = ⊥
+IsPlayable (Next who now call) = ⊥
 
 -- a line that names nothing can always be taken
 abbrev pub CanTake : Stock → List Part → Option Line → Type 0
 CanTake stock parts None = ⊤
-CanTake stock parts (Some l) = MayCome stock parts l × IsPlayable parts l
+CanTake stock parts (Some l) = MayCome stock parts l × IsPlayable l
 
--- One caller's answers are in its order, and the change that an answered call makes stands at its place. Where checksums tell payloads
+-- Each caller's answers are in its order, and the change that an answered call makes stands at its place. Where checksums tell payloads
 -- apart, each answered call has its place between its begin and its answer, and found there the map of the changes before it.
 pub record AreAnswered (start : Region) (past : List Event) (answers : List Answer) : Type 0 where
   pub in_order : AllPairs (λ a b. a.who ≡ b.who → a.ended ≤ b.begun) answers
@@ -68,7 +68,7 @@ pub record AreAnswered (start : Region) (past : List Event) (answers : List Answ
 -- and a hundred
 abbrev pub IsInTime : Region → List Part → Type 0
 IsInTime start parts =
-    (c : Running) (words : ℕ) → running 1 parts ≡ Some c → file_size (region_after start (past_of parts)) ≤ 4 * words → asked_of 1 parts < 6 * words + 100
+    (who : ℕ) (c : Running) (words : ℕ) → running who parts ≡ Some c → file_size (region_after start (past_of parts)) ≤ 4 * words → asked_of who parts < 6 * words + 100
 
 -- after each line
 abbrev pub AreInTime : Region → List Part → Type 0

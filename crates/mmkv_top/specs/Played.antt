@@ -140,7 +140,7 @@ IsPartOf stock parts (Some l) made outcome = MayCome stock parts l × Makes part
 -- where the line's call was stopped, its write was refused for the reason that is printed
 abbrev pub IsReasoned : Region → Part → List Part → Type 0
 IsReasoned start p parts =
-    (c : Running) (who : ℕ) (r : Reason) → running 1 parts ≡ Some c → p.outcome ≡ Some (Stopped who r) →
+    (c : Running) (who : ℕ) (r : Reason) → running who parts ≡ Some c → p.outcome ≡ Some (Stopped who r) →
     (why : Stop) × (reason_said why ≡ Some r) × WasRefused why c.call c.now (length (changes_of c.past)) start (p.made ++ past_of parts)
 
 -- each line's
@@ -181,9 +181,16 @@ pub record MetFullJournal (start : Region) (parts : List Part) (who count : ℕ)
   pub asks : AsksFor start who call (made ++ past_of parts) asked
   pub full : IsTooFull (length (strategies parts)) (made ++ past_of parts) asked
 
--- a line for which the journal was too full: an opener asks for the place of its death
+-- one more opener asked for the place of its death. Other openers have so many places reserved for stores to come: none, unless one of them
+-- holds exclusive
+pub record MetNoPlace (parts : List Part) : Type 0 where
+  pub reserved : ℕ
+  pub by_holder : 0 < reserved → (w : ℕ) × (lock_of (locks_after (past_of parts)) w ≡ Some Exclusive)
+  pub full : IsTooFull (length (strategies parts)) (past_of parts) (reserved + 1)
+
+-- a line for which the journal was too full
 abbrev pub MeetsFullJournal : Region → List Part → Line → Type 0
-MeetsFullJournal start parts (Open strategy) = IsTooFull (length (strategies parts)) (past_of parts) 1
+MeetsFullJournal start parts (Open strategy) = MetNoPlace parts
 MeetsFullJournal start parts (Step who count) = MetFullJournal start parts who count
 MeetsFullJournal start parts _ = ⊥
 

@@ -1,11 +1,11 @@
--- What a player stands for.
-use Rattle.std.specs.Prelude.{List, Option}
-use Rattle.opener.specs.State.{OpenerState}
-use Rattle.region_words.specs.Local.{Seated}
-use Rattle.script_lang.specs.declared.outcome.Outcome.{Outcome}
+-- What a script is played on, and what came of it so far.
+use Rattle.std.specs.Prelude.{ℕ, List}
+use Rattle.world.specs.World.{WorldState}
 
--- the region with its opener's seat, the opener once it is opened, and what the lines ended with so far
-pub record PlayerState : Type 0 where
-  pub seat : Seated
-  pub opener : Option OpenerState
-  pub outcomes : List Outcome
+-- a world, and the text of what the lines ended with
+pub record PlayState : Type 0 where
+  pub world : WorldState
+  pub text : List ℕ
+
+abbrev pub play_state : WorldState → List ℕ → PlayState
+play_state w text = record { world = w; text = text }

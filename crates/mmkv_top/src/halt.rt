@@ -1,6 +1,6 @@
 // Why a play ends before its script does.
 use expiring_map::Memory;
-use region_words::AdmitStop;
+use world::{OpenStop, WorldStop};
 
 /// Why a line ends the play.
 #[derive(Clone, Copy, Debug, PartialEq, Eq)]
@@ -25,16 +25,31 @@ impl From<Memory> for Halt {
     }
 }
 
-impl From<AdmitStop> for Halt {
+impl From<OpenStop> for Halt {
     ghost use Rattle.std.specs.Prelude.{◌≡◌};
-    ghost use Rattle.mmkv_top.specs.Halting.{of_admission};
+    ghost use Rattle.mmkv_top.specs.Halting.{of_opening};
 
-    ghost from_gives = { λ stop h. h ≡ of_admission stop };
+    ghost from_gives = { λ stop h. h ≡ of_opening stop };
 
-    fn from(stop: AdmitStop) -> Halt {
+    fn from(stop: OpenStop) -> Halt {
         match stop {
-            AdmitStop::JournalFull => Halt::JournalFull,
-            AdmitStop::Memory => Halt::Memory,
+            OpenStop::TooMany => Halt::Refused,
+            OpenStop::JournalFull => Halt::JournalFull,
+            OpenStop::Memory => Halt::Memory,
+        }
+    }
+}
+
+impl From<WorldStop> for Halt {
+    ghost use Rattle.std.specs.Prelude.{◌≡◌};
+    ghost use Rattle.mmkv_top.specs.Halting.{of_begin};
+
+    ghost from_gives = { λ stop h. h ≡ of_begin stop };
+
+    fn from(stop: WorldStop) -> Halt {
+        match stop {
+            WorldStop::NoOpener | WorldStop::Refused(_) => Halt::Refused,
+            WorldStop::Memory => Halt::Memory,
         }
     }
 }

@@ -7,13 +7,12 @@ mod ending;
 mod halt;
 mod limits;
 mod lines;
+mod moves;
 mod play;
-mod player;
 mod refusals;
 mod top;
 
 pub use ending::Status;
 pub use halt::{Halt, Halted};
 pub use limits::{LARGEST_COUNT, LARGEST_LINE};
-pub use player::Player;
 pub use top::run;

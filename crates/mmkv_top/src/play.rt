@@ -5,17 +5,18 @@ ghost use Rattle.region_words.specs.Region.{IsAccepted};
 ghost use Rattle.region_words.specs.Past.{region_after, changes_of};
 ghost use Rattle.region_words.specs.Local.{no_account};
 ghost use Rattle.region_words.specs.Stores.{IsId};
-ghost use Rattle.script_lang.specs.Texts.{line, outcome_line, run_text};
+ghost use Rattle.script_lang.specs.Texts.{line, changes_text, region_text};
 ghost use Rattle.mmkv_top.specs.Ending.{IsDueOr, ending};
 ghost use Rattle.mmkv_top.specs.Due.{IsAmong, play_statuses, IsPlay, IsPlayOf, IsInputPlay, IsEndingOf, region_in};
 ghost use Rattle.mmkv_top.specs.Played.{stock_of};
 ghost use Rattle.mmkv_top.specs.Play.{IsPlayed, IsEndedEarly, EndsLines, not_yet, texts_of};
-ghost use Rattle.mmkv_top.specs.Player.{IsAt, IsReady, IsEndingAt};
+ghost use Rattle.world.specs.World.{IsSound};
+ghost use Rattle.mmkv_top.specs.State.{play_state};
+ghost use Rattle.mmkv_top.specs.Progress.{IsAt, IsEndingAt};
 
 use crate::ending::Ending;
 use crate::halt::{Halt, Halted};
 use crate::lines::take_lines;
-use crate::player::Player;
 use crate::refusals::{refused, unbrought};
 use expiring_map::{Bytes, Memory};
 use handlers::HandlerStock;
@@ -24,11 +25,12 @@ use region_words::{
     Brought, LARGEST_DATA, LARGEST_META, LocalRegion, RegionStop, Shelf, ShelfStop, Source,
     a_region_stays_a_region, shown,
 };
-use script_lang::{Outcome, ScriptStop, changes_text, outcome_text, read_script, region_text};
+use script_lang::{ScriptStop, changes_text, read_script, region_text};
 use std::alloc::Global;
 use std::mem;
+use world::World;
 
-/// Plays a script from the input, for one opener at a copy of a store. The store has to show a whole image.
+/// Plays a script of openers from the input, at a copy of a store. The store has to show a whole image.
 pub(crate) fn play<D: Shelf, S: Source>(
     alloc: Global,
     shelf: &mut D,
@@ -103,9 +105,9 @@ fn play_region<S: Source>(
     region.journal();
     match shown(region.data_bytes(), region.meta_bytes()) {
         Ok(Shown::Whole(_)) => {
-            let mut player = Player::new(alloc, region);
-            let ending = play_input(alloc, &mut player, input, handlers);
-            mem::drop(player);
+            let mut world = World::new(alloc, region);
+            let ending = play_input(alloc, &mut world, input, handlers);
+            mem::drop(world);
             ending
         }
         Ok(_) => not_yet(alloc),
@@ -115,19 +117,18 @@ fn play_region<S: Source>(
 
 fn play_input<S: Source>(
     alloc: Global,
-    player: &mut Player,
+    world: &mut World,
     input: &mut S,
     handlers: &mut HandlerStock,
 ) -> Result<Ending, Memory>
-    requires ready { IsReady player.old }
-    requires at { IsAt (stock_of handlers.old) (stock_of handlers.old) player.old.seat.region.start [] player.old }
-    requires accepted { IsAccepted player.old.seat.region.start }
-    ensures { IfOk result (IsInputPlay (stock_of handlers.old) player.old.seat.region.start (S.left input.old) (S.left input.new)
+    requires sound { IsSound world.old }
+    requires at { IsAt (stock_of handlers.old) (stock_of handlers.old) world.old.region.start [] (play_state world.old []) }
+    ensures { IfOk result (IsInputPlay (stock_of handlers.old) world.old.region.start (S.left input.old) (S.left input.new)
         (Rose (S.faults input.old) (S.faults input.new))) }
 {
     match read_script(alloc, input) {
-        Ok(script) => play_script(alloc, player, handlers, &script),
-        Err(ScriptStop::TooLong(front)) => play_cut(alloc, player, handlers, front.as_slice()),
+        Ok(script) => play_script(alloc, world, handlers, &script),
+        Err(ScriptStop::TooLong(front)) => play_cut(alloc, world, handlers, front.as_slice()),
         Err(ScriptStop::ReadFault) => Ending::of_text(alloc, 3, "read fault\n"),
         Err(ScriptStop::Memory) => Err(Memory),
     }
@@ -135,18 +136,18 @@ fn play_input<S: Source>(
 
 fn play_script(
     alloc: Global,
-    player: &mut Player,
+    world: &mut World,
     handlers: &mut HandlerStock,
     script: &[u8],
 ) -> Result<Ending, Memory>
-    requires ready { IsReady player.old }
-    requires at { IsAt (stock_of handlers.old) (stock_of handlers.old) player.old.seat.region.start [] player.old }
-    requires accepted { IsAccepted player.old.seat.region.start }
-    ensures { IfOk result (λ e. IsPlayed (stock_of handlers.old) player.old.seat.region.start (texts_of script.now) e
-        ⊎ IsEndedEarly (stock_of handlers.old) player.old.seat.region.start (texts_of script.now) false e) }
+    requires sound { IsSound world.old }
+    requires at { IsAt (stock_of handlers.old) (stock_of handlers.old) world.old.region.start [] (play_state world.old []) }
+    ensures { IfOk result (λ e. IsPlayed (stock_of handlers.old) world.old.region.start (texts_of script.now) e
+        ⊎ IsEndedEarly (stock_of handlers.old) world.old.region.start (texts_of script.now) false e) }
 {
-    match take_lines(alloc, player, handlers, script) {
-        Ok(_) => played(alloc, player),
+    let mut text = Vec::new(alloc);
+    match take_lines(alloc, world, &mut text, handlers, script) {
+        Ok(_) => played(alloc, world, text),
         Err(halted) => halted_at(alloc, halted),
     }
 }
@@ -154,17 +155,20 @@ fn play_script(
 // The script has a byte too many. The line that holds it is refused, if none before it ends the play.
 fn play_cut(
     alloc: Global,
-    player: &mut Player,
+    world: &mut World,
     handlers: &mut HandlerStock,
     script: &[u8],
 ) -> Result<Ending, Memory>
-    requires ready { IsReady player.old }
-    requires at { IsAt (stock_of handlers.old) (stock_of handlers.old) player.old.seat.region.start [] player.old }
+    requires sound { IsSound world.old }
+    requires at { IsAt (stock_of handlers.old) (stock_of handlers.old) world.old.region.start [] (play_state world.old []) }
     ensures { IfOk result (λ e. (size : ℕ) × EndsLines script.now size
-        × IsEndedEarly (stock_of handlers.old) player.old.seat.region.start (texts_of (take size script.now)) true e) }
+        × IsEndedEarly (stock_of handlers.old) world.old.region.start (texts_of (take size script.now)) true e) }
 {
     let size = end_of_lines(script);
-    match take_lines(alloc, player, handlers, &script[..size]) {
+    let mut text = Vec::new(alloc);
+    let taken = take_lines(alloc, world, &mut text, handlers, &script[..size]);
+    mem::drop(text);
+    match taken {
         Ok(count) => script_refused(alloc, count + 1),
         Err(halted) => halted_at(alloc, halted),
     }
@@ -211,31 +215,18 @@ fn not_yet(alloc: Global) -> Result<Ending, Memory>
     Ending::of_text(alloc, 17, "not yet\n")
 }
 
-// The text of all outcomes and changes, and of the region that is left.
-fn played(alloc: Global, player: &Player) -> Result<Ending, Memory>
-    requires { IsAccepted player.now.seat.region.start }
-    ensures { IfOk result (λ e. e ≡ ending 0 (run_text player.now.outcomes
-        (changes_of player.now.seat.region.past) (region_after player.now.seat.region.start player.now.seat.region.past))) }
+// The text of all changes and of the region that is left, behind that of the outcomes.
+fn played(alloc: Global, world: &World, outcomes: Vec<u8>) -> Result<Ending, Memory>
+    ensures { IfOk result (λ e. e ≡ ending 0 (outcomes.items ++ (changes_text (changes_of world.now.region.past) ++ region_text (region_after world.now.region.start world.now.region.past)))) }
 {
     a_region_stays_a_region();
-    let region = player.seat.region();
+    let region = world.region();
     region.journal();
-    let mut text = Vec::new(alloc);
-    outcomes_text(alloc, &player.outcomes, &mut text)?;
+    let mut text = outcomes;
     changes_text(alloc, region.changes(alloc)?.as_slice(), &mut text)?;
     region_text(alloc, region.data_bytes(), region.meta_bytes(), &mut text)?;
     Ok(Ending {
         status: 0,
         text: Bytes::of_vec(text),
     })
-}
-
-// Appends the line of each outcome.
-fn outcomes_text(alloc: Global, outcomes: &[Outcome], out: &mut Vec<u8>) -> Result<(), Memory>
-    ensures { OnOk result (out.new.items ≡ out.old.items ++ flat_map outcome_line outcomes.now) }
-{
-    for outcome in outcomes {
-        outcome_text(alloc, outcome, out)?;
-    }
-    Ok(())
 }

@@ -184,12 +184,16 @@ module _ (o : OpenerState) (running next : Running) (old : Loading) (result : St
               rests = λ held apart. facts.rests (ap (lock_by o.holds) (sym same.taken) ∙ held) refl apart;
             }
 
-    not_whole : OnTold t.told (λ h. shown (region_after h.start h.past) ≡ found.shown)
-    not_whole = told_map t.told (λ h. IsLoadOf found (region_after h.start h.past)) (λ h. shown (region_after h.start h.past) ≡ found.shown) (λ h is. sym is.shown) told
+    seen_at_rest : OnTold t.told (λ h. (shown (region_after h.start h.past) ≡ found.shown) × (Apart h.start h.past → AtRest h.start h.past))
+    seen_at_rest =
+        told_call (running_as o running (Load old)) s t (loaded s) (λ start past. IsLoadOf found (region_after start past))
+        (λ start past. (shown (region_after start past) ≡ found.shown) × (Apart start past → AtRest start past)) tied goes.after told
+        (λ start past region lawful mine facts is. (sym is.shown, rest_now o running old start past s.who lawful facts (lock_by o.holds running.taken) refl tied.at.2.1 (mine ∙ tied.holds)))
 
     no_reason : (z : Shown) → ((n : ℕ) → z ≢ seen.Whole n) → found.shown ≡ z → HasReason (Runs running (Load old)) (why.NotWhole z) s t
     no_reason z other e =
-        told_map t.told (λ h. shown (region_after h.start h.past) ≡ found.shown) (λ h. (shown (region_after h.start h.past) ≡ z) × ((n : ℕ) → z ≢ seen.Whole n)) (λ h is. (is ∙ e, other)) not_whole
+        told_map t.told (λ h. (shown (region_after h.start h.past) ≡ found.shown) × (Apart h.start h.past → AtRest h.start h.past))
+        (λ h. (shown (region_after h.start h.past) ≡ z) × ((n : ℕ) → z ≢ seen.Whole n) × (Apart h.start h.past → AtRest h.start h.past)) (λ h is. (is.0 ∙ e, other, is.1)) seen_at_rest
 
     abbrev Is : Shown → Type 0
     Is z = IsLoadedBy z next found place o result new

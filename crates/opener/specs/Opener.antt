@@ -17,6 +17,7 @@ use Rattle.region_words.specs.Region.{Region, IsAccepted, record_of, header, bas
 use Rattle.region_words.specs.Past.{region_after, changes_of}
 use Rattle.region_words.specs.Apart.{Apart}
 use Rattle.region_words.specs.Lawful.{Between, Reaches, map_after}
+use Rattle.region_words.specs.Outcome.{AtRest}
 use Rattle.region_words.specs.Rows.{standing}
 use Rattle.region_words.specs.Images.{IsKept, checksum_at}
 use Rattle.region_words.specs.Standings.{IsStandingOf}
@@ -155,9 +156,9 @@ abbrev pub ChangeIs : ℕ → Running → ℕ → List Event → Type 0
 ChangeIs who running place past =
     IfSome (act_of running.call running.now) (λ act. slice_get (changes_of past) place ≡ Some (record { maker = who; act = act }))
 
--- what a call of this kind finds in the region is the reason to stop
+-- What a call of this kind finds in the region is the reason to stop. Where it finds no whole image, no row is under way.
 abbrev pub StopIs : Running → Stop → Region → List Event → Type 0
-StopIs running (NotWhole seen) start past = (shown (region_after start past) ≡ seen) × ((n : ℕ) → seen ≢ Whole n)
+StopIs running (NotWhole seen) start past = (shown (region_after start past) ≡ seen) × ((n : ℕ) → seen ≢ Whole n) × (Apart start past → AtRest start past)
 StopIs running (Version n) start past = let r = region_after start past in checked (record_of r) (header r) ≡ Err (fault.Version n)
 StopIs running (Flags n) start past = let r = region_after start past in checked (record_of r) (header r) ≡ Err (fault.Flags n)
 StopIs running Memory start past = ⊤

@@ -4,6 +4,8 @@
 #[cfg(test)]
 mod dumps;
 #[cfg(test)]
+mod openers;
+#[cfg(test)]
 mod plays;
 #[cfg(test)]
 mod random_stores;

@@ -75,7 +75,7 @@ fn played(alloc: Global, script: &[u8]) -> Result<(u8, Vec<u8>), Memory> {
 }
 
 // These pieces one after another.
-fn joined(alloc: Global, pieces: &[&[u8]]) -> Result<Vec<u8>, AllocError> {
+pub(crate) fn joined(alloc: Global, pieces: &[&[u8]]) -> Result<Vec<u8>, AllocError> {
     let mut all = Vec::new(alloc);
     for piece in pieces {
         all.extend_from_slice(piece)?;

@@ -1,6 +1,6 @@
 -- The opener at a place takes its turn at the region.
 use Rattle.std.proofs.Common.{◌≡◌, ◌≢◌, ℕ, ◌+◌, ◌-◌, ◌*◌, ◌<◌, ◌≤◌, Bool, true, false, not, ◌||◌, List, [], ◌∷◌, ◌++◌, length, set, refl, sym, ap, ◌∙◌, inl, inr, subst, arith, append-nil}
-use Rattle.std.specs.Prelude.{Option, Some, None, slice_get, if◌then◌else◌}
+use Rattle.std.specs.Prelude.{◌↔◌, Option, Some, None, IfSome, IsTrue, is_some, slice_get, if◌then◌else◌}
 use Rattle.std.specs.Ordering.{nat_cmp}
 use Rattle.std.specs.FinSet as sets
 use Rattle.change_log.specs.declared.call.Answer.{Answer}
@@ -27,11 +27,11 @@ use Rattle.opener.specs.declared.work.Work.TheVariants.{Idle, Ended, Runs}
 use Rattle.opener.proofs.Carry.{exclusive_if, exclusive_some}
 use Rattle.opener.specs.declared.calls.Step.{Step}
 use Rattle.opener.specs.declared.calls.Step.TheVariants as step
-use Rattle.world.specs.World.{IsUnused, IsWorld, Lives, WorldState, calls_running, share_of}
+use Rattle.world.specs.World.{IsLiving, IsUnused, IsWorld, Lives, WorldState, calls_running, share_of}
 use Rattle.world.specs.Moves.{Begun, HoldsAreKept, IfAnswered, IsSaid, Moves, Steps, new_opener}
 use Rattle.world.specs.declared.moves.Moved.{Moved}
 use Rattle.world.specs.declared.moves.Moved.TheVariants as moved
-use Rattle.world.proofs.Numbered.{one_fewer_runs}
+use Rattle.world.proofs.Numbered.{one_fewer_runs, within_is}
 use Rattle.world.proofs.Stays.{agrees_with, held_while, stays_by}
 use Rattle.world.proofs.Stepped.{EndsOrStays, began, ends_or_stays, opened, room_left, stepped}
 
@@ -246,3 +246,12 @@ module _ (l : Local) (turned new : Seated) (openers : List OpenerState) (answers
   pub world_opened : length openers < 64 → Tied (new_opener who) (seat_state new) → IsWorld new.region (openers ++ new_opener who ∷ []) answers
   world_opened room tied =
       opened l new.region openers answers (after_admission (account_of l.accounts who)) world room region_is (subst (λ w. Tied (new_opener who) (share_of new.region w)) seat_is tied)
+
+-- Whether an opener of a number lives, by the place where it stands.
+pub lives_some : (openers : List OpenerState) (who : ℕ) (found : Option ℕ) →
+    IfSome found (λ place. (place + 1 ≡ who) × (place < length openers) × ((o : OpenerState) → slice_get openers place ≡ Some o → is_ended o.work ≡ false)) →
+    (found ≡ None → (o : OpenerState) → Lives openers who o → ⊥) → IsTrue (is_some found) ↔ IsLiving openers who
+lives_some openers who None some none = ((λ never. absurd cc), λ living. absurd (none refl living.0 living.1))
+lives_some openers who (Some place) some none =
+    let at = within_is openers place some.1 in
+    ((λ yes. (at.0, subst (λ w. Lives openers w at.0) some.0 (lives_at openers place at.0 at.1 (some.2 at.0 at.1)))), λ living. refl)

@@ -1,8 +1,11 @@
 // A world: a region in memory, the openers that were opened in it, and what they answered.
-ghost use Rattle.std.specs.Prelude.{◌≡◌, [], IfErr, IfOk, OnErr, OnOk, replicate};
+ghost use Rattle.std.specs.Prelude.{◌≡◌, ◌↔◌, [], None, IfErr, IfOk, IsTrue, OnErr, OnOk, replicate};
 ghost use Rattle.opener.specs.Calls.{IsBuilt};
+ghost use Rattle.opener.specs.Opener.{stop_found};
+ghost use Rattle.opener.specs.State.{OpenerState};
 ghost use Rattle.region_words.specs.Local.{no_account};
 ghost use Rattle.region_words.specs.Region.{IsAccepted};
+ghost use Rattle.world.specs.World.{IsLiving, IsSound, Lives};
 ghost use Rattle.world.specs.Moves.{Begun, HoldsAreKept, IsNotBegun, IsNotOpened, IsOneHistory, Moves, Opens, RestsWithItsHistory, RestsWithoutDeath};
 
 use crate::moves::Moved;
@@ -10,7 +13,7 @@ use crate::openers::{MOST_OPENERS, begin_at, open_one, place_of, step_at};
 use crate::stops::{NotOpened, WorldStop};
 use change_log::{Answer, Call};
 use handlers::Handler;
-use opener::Opener;
+use opener::{Opener, Stop};
 use region_words::{LocalRegion, LocalSeat};
 use std::alloc::Global;
 use std::marker::Model;
@@ -46,7 +49,8 @@ impl World {
         requires past { region.past ≡ [] }
         requires new { region.accounts ≡ replicate 65 no_account }
         requires accepted { IsAccepted region.start }
-        ensures { result ≡ record { region = region; openers = []; answers = [] } }
+        ensures new { result ≡ record { region = region; openers = []; answers = [] } }
+        ensures sound { IsSound result }
     {
         World {
             alloc,
@@ -58,6 +62,7 @@ impl World {
 
     /// Opens one more opener, and gives its number. It lives until a call on the region fails for it.
     pub fn open(&mut self, handler: Box<dyn Handler + Send>) -> Result<u32, NotOpened>
+        ensures sound { IsSound self.new }
         ensures ok { IfOk result (λ who. Opens who self.old self.new) }
         ensures err { IfErr result (λ n. IsNotOpened n.why self.old) }
         ensures same { OnErr result (self.new ≡ self.old) }
@@ -75,6 +80,7 @@ impl World {
     /// its answer. Where it isn't begun, nothing changes.
     pub fn begin(&mut self, who: u32, call: Call, now: u32) -> Result<(), WorldStop>
         requires { IsBuilt call }
+        ensures sound { IsSound self.new }
         ensures ok { OnOk result (Begun who call now self.old self.new) }
         ensures err { IfErr result (λ why. IsNotBegun why who call self.old) }
         ensures same { OnErr result (self.new ≡ self.old) }
@@ -99,6 +105,7 @@ impl World {
 
     /// The next step of an opener's call. It takes no memory but what the call itself takes.
     pub fn step(&mut self, who: u32) -> Moved
+        ensures sound { IsSound self.new }
         ensures moves { Moves who result self.old self.new }
         ensures held { HoldsAreKept who self.old self.new }
     {
@@ -106,6 +113,22 @@ impl World {
             return Moved::NoOpener;
         };
         step_at(&mut self.seat, &mut self.openers, &mut self.answers, place)
+    }
+
+    /// Whether an opener of this number was opened and lives.
+    pub fn lives(&self, who: u32) -> bool
+        ensures { IsTrue result ↔ IsLiving self.now.openers who }
+    {
+        place_of(&self.openers, who).is_some()
+    }
+
+    /// The stop with which an opener's call ends once its lock is given up, where it has found one.
+    pub fn stop_found(&self, who: u32) -> Option<Stop>
+        ensures found { (o : OpenerState) → Lives self.now.openers who o → result ≡ stop_found o.work }
+        ensures none { (IsLiving self.now.openers who → ⊥) → result ≡ None }
+    {
+        let place = place_of(&self.openers, who)?;
+        self.openers[place].stop_found()
     }
 
     /// What was answered, in the order of the answers.

@@ -1,10 +1,12 @@
 use Rattle.std.specs.Prelude.{map}
+use Rattle.world.specs.World.{IsSound}
+use Rattle.mmkv_top.specs.State.{play_state}
 use Rattle.mmkv_top.specs.Played.{stock_of}
 use Rattle.mmkv_top.specs.Play.{texts_of, without_feed}
-use Rattle.mmkv_top.specs.Player.{IsReady, IsTaken}
+use Rattle.mmkv_top.specs.Progress.{IsTaken}
 use Rattle.mmkv_top.proofs.lines.take_lines.Given as goal
 
 abbrev pub invariant-loop-line : goal.invariant-loop-line
 invariant-loop-line g l =
-    IsReady l.player
-    × IsTaken (stock_of l.fn.handlers) (stock_of l.handlers) l.fn.player.seat.region.start (texts_of l.fn.script) (map without_feed l.line-iterator) l.player l.count
+    IsSound l.world
+    × IsTaken (stock_of l.fn.handlers) (stock_of l.handlers) l.fn.world.region.start (texts_of l.fn.script) (map without_feed l.line-iterator) (play_state l.world l.text.items) l.count

@@ -3,9 +3,10 @@ use Rattle.std.proofs.lemmas.Result.{IfOk-weaker}
 use Rattle.std.specs.Prelude.{true, take, codes, decimal}
 use Rattle.script_lang.specs.Texts.{line}
 use Rattle.mmkv_top.specs.Ending.{ending}
+use Rattle.mmkv_top.specs.State.{play_state}
 use Rattle.mmkv_top.specs.Played.{stock_of}
 use Rattle.mmkv_top.specs.Play.{texts_of, EndsLines, IsEndedEarly}
-use Rattle.mmkv_top.specs.Player.{IsEndingAt}
+use Rattle.mmkv_top.specs.Progress.{IsEndingAt}
 use Rattle.mmkv_top.proofs.Taking.{beyond_all, halts_beyond}
 use Rattle.mmkv_top.proofs.Ended.{ended_early}
 use Rattle.mmkv_top.proofs.play.play_cut.Goals as goal
@@ -13,7 +14,7 @@ use Rattle.mmkv_top.proofs.play.play_cut.Goals as goal
 pub returns-in-Ok : goal.returns-in-Ok
 returns-in-Ok g c =
     let stock = stock_of c.args.handlers.now in
-    let start = c.args.player.now.seat.region.start in
+    let start = c.args.world.now.region.start in
     let size = c.end_of_lines-size.result in
     IfOk-weaker c.script_refused.result
     (λ e. e ≡ ending 9 (line (codes "script" ∷ decimal (c.in-Ok.count + 1) ∷ [])))
@@ -23,7 +24,7 @@ returns-in-Ok g c =
       c.end_of_lines-size.ensures,
       inl (
         c.in-Ok.count + 1,
-        beyond_all stock (stock_of c.take_lines.new.handlers) start (texts_of (take size c.args.script.now)) c.take_lines.new.player c.in-Ok.count c.in-Ok.ensures.ready c.in-Ok.ensures.taken,
+        beyond_all stock (stock_of c.take_lines-taken.new.handlers) start (texts_of (take size c.args.script.now)) (play_state c.take_lines-taken.new.world c.take_lines-taken.new.text.items) c.in-Ok.count c.take_lines-taken.ensures.sound c.in-Ok.ensures.taken,
         text,
       ),
     )) c.script_refused.ensures
@@ -31,7 +32,7 @@ returns-in-Ok g c =
 pub returns-in-Err : goal.returns-in-Err
 returns-in-Err g c =
     let stock = stock_of c.args.handlers.now in
-    let start = c.args.player.now.seat.region.start in
+    let start = c.args.world.now.region.start in
     let size = c.end_of_lines-size.result in
     IfOk-weaker c.halted_at.result (IsEndingAt c.in-Err.halted.number c.in-Err.halted.why)
     (λ e. (x : ℕ) × EndsLines c.args.script.now x × IsEndedEarly stock start (texts_of (take x c.args.script.now)) true e)

@@ -1,30 +1,31 @@
-use Rattle.std.proofs.Common.{◌≡◌, inl, inr}
+use Rattle.std.proofs.Common.{◌≡◌, ◌++◌, inl, inr}
 use Rattle.std.proofs.lemmas.Result.{IfOk-weaker}
 use Rattle.std.specs.Prelude.{◌⊎◌, false}
 use Rattle.region_words.specs.Past.{changes_of, region_after}
-use Rattle.script_lang.specs.Texts.{run_text}
+use Rattle.script_lang.specs.Texts.{changes_text, region_text}
 use Rattle.mmkv_top.specs.Ending.{ending}
+use Rattle.mmkv_top.specs.State.{play_state}
 use Rattle.mmkv_top.specs.Played.{stock_of}
 use Rattle.mmkv_top.specs.Play.{texts_of, IsPlayed, IsEndedEarly}
-use Rattle.mmkv_top.specs.Player.{IsEndingAt}
+use Rattle.mmkv_top.specs.Progress.{IsEndingAt}
 use Rattle.mmkv_top.proofs.Ended.{whole_played, ended_early}
 use Rattle.mmkv_top.proofs.play.play_script.Goals as goal
 
 pub returns-in-Ok : goal.returns-in-Ok
 returns-in-Ok g c =
     let stock = stock_of c.args.handlers.now in
-    let start = c.args.player.now.seat.region.start in
+    let start = c.args.world.now.region.start in
     let texts = texts_of c.args.script.now in
-    let p = c.take_lines.new.player in
+    let p = play_state c.take_lines.new.world c.take_lines.new.text.items in
     IfOk-weaker c.played.result
-    (λ e. e ≡ ending 0 (run_text p.outcomes (changes_of p.seat.region.past) (region_after p.seat.region.start p.seat.region.past)))
+    (λ e. e ≡ ending 0 (p.text ++ (changes_text (changes_of p.world.region.past) ++ region_text (region_after p.world.region.start p.world.region.past))))
     (λ e. IsPlayed stock start texts e ⊎ IsEndedEarly stock start texts false e)
-    (λ e text. inl (whole_played stock (stock_of c.take_lines.new.handlers) start texts p c.in-Ok.field-0 e c.in-Ok.ensures.ready c.in-Ok.ensures.taken text)) c.played.ensures
+    (λ e text. inl (whole_played stock (stock_of c.take_lines.new.handlers) start texts p c.in-Ok.field-0 e c.take_lines.ensures.sound c.in-Ok.ensures.taken text)) c.played.ensures
 
 pub returns-in-Err : goal.returns-in-Err
 returns-in-Err g c =
     let stock = stock_of c.args.handlers.now in
-    let start = c.args.player.now.seat.region.start in
+    let start = c.args.world.now.region.start in
     let texts = texts_of c.args.script.now in
     IfOk-weaker c.halted_at.result (IsEndingAt c.in-Err.halted.number c.in-Err.halted.why)
     (λ e. IsPlayed stock start texts e ⊎ IsEndedEarly stock start texts false e)

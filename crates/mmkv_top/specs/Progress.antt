@@ -1,17 +1,17 @@
--- The player of a script, and how far it has come.
-use Rattle.std.specs.Prelude.{◌≡◌, ◌≢◌, ℕ, ◌*◌, ◌+◌, ◌<◌, ◌≤◌, ◌⊎◌, Bool, List, [], ◌∷◌, ◌++◌, Option, Some, None, Result, Ok, Err, length, IfSome, IsTrue, is_some, nat_le, ◌&&◌, option_map, replicate, codes, decimal, ⊤}
-use Rattle.std.specs.List.{AllByRecursion}
+-- How far a script has been played.
+use Rattle.std.specs.Prelude.{◌≡◌, ◌≢◌, ℕ, ◌*◌, ◌+◌, ◌-◌, ◌<◌, ◌≤◌, ◌⊎◌, Bool, List, [], ◌∷◌, ◌++◌, All, Option, Some, None, Result, Ok, Err, length, flat_map, slice_get, slice_set, IfSome, IsTrue, is_some, nat_le, option_map, codes, decimal, ⊤}
 use Rattle.change_log.specs.Settled.{AreEndedBy}
 use Rattle.change_log.specs.declared.call.Answer.{Answer}
 use Rattle.change_log.specs.declared.call.Call.{Call as Asked}
+use Rattle.handlers.specs.declared.handler.Strategy.{Strategy}
 use Rattle.lock_rules.specs.Locks.{IsLeastAgainst}
 use Rattle.lock_rules.specs.declared.table.LockKind.{LockKind}
 use Rattle.opener.specs.Adds.{AreStoredBy}
 use Rattle.opener.specs.Bound.{steps_left}
 use Rattle.opener.specs.Counted.{counted}
 use Rattle.opener.specs.Calls.{holds_after}
-use Rattle.opener.specs.Opener.{Tied, OnAnswer, IsAnswer, stop_found}
-use Rattle.opener.specs.Settles.{IsSettledBy, answers_by}
+use Rattle.opener.specs.Opener.{OnAnswer, IsAnswer, stop_found}
+use Rattle.opener.specs.Settles.{answers_by}
 use Rattle.opener.specs.State.{OpenerState}
 use Rattle.opener.specs.declared.calls.Step.{Step}
 use Rattle.opener.specs.declared.calls.Step.TheVariants as step
@@ -24,25 +24,29 @@ use Rattle.opener.specs.declared.work.Work.{Work}
 use Rattle.opener.specs.declared.work.Work.TheVariants.{Idle, Runs}
 use Rattle.meta_record.specs.declared.shown.Shown.TheVariants.{Whole}
 use Rattle.region_words.specs.Apart.{Apart}
-use Rattle.region_words.specs.Region.{Region, IsAccepted, file_size, shown}
-use Rattle.region_words.specs.Past.{AreSteps, changes_of, locks_after, region_after}
-use Rattle.region_words.specs.Local.{Seated, account_of, no_account, seat_state}
+use Rattle.region_words.specs.Region.{Region, file_size, shown}
+use Rattle.region_words.specs.Past.{AreSteps, NoneDies, changes_of, locks_after, region_after}
+use Rattle.region_words.specs.Local.{Local, Seated, account_of}
 use Rattle.region_words.specs.declared.event.Event.{Event}
 use Rattle.region_words.specs.declared.event.What.{What}
 use Rattle.script_lang.specs.Lines.{IsLine}
+use Rattle.script_lang.specs.Texts.{line as text_line, outcome_line}
 use Rattle.script_lang.specs.declared.line.Line.{Line}
 use Rattle.script_lang.specs.declared.outcome.Outcome.{Outcome}
 use Rattle.script_lang.specs.declared.outcome.Outcome.TheVariants.{Answered, Blocked, Stopped}
 use Rattle.script_lang.specs.declared.outcome.Reason.{Reason}
+use Rattle.world.specs.World.{Lives, WorldState}
+use Rattle.world.specs.Moves.{IsSaid}
+use Rattle.world.specs.declared.moves.Moved.{Moved}
+use Rattle.world.specs.declared.moves.Moved.TheVariants as moved
 use Rattle.mmkv_top.specs.declared.halt.Halt.{Halt}
 use Rattle.mmkv_top.specs.declared.halt.Halt.TheVariants as halt
 use Rattle.mmkv_top.specs.declared.limits.TheConstants.{LARGEST_COUNT, LARGEST_LINE}
-use Rattle.mmkv_top.specs.State.{PlayerState}
+use Rattle.mmkv_top.specs.State.{PlayState}
 use Rattle.mmkv_top.specs.Ending.{ending}
 use Rattle.mmkv_top.specs.declared.ending.Ending.{Ending}
-use Rattle.script_lang.specs.Texts.{line as text_line}
 use Rattle.mmkv_top.specs.Parts.{Part, lines_of, past_of, outcomes_of, answers_in, listed, strategies, holds_of, asked_of, locks_among, stores_among, Running, running, going_on}
-use Rattle.mmkv_top.specs.Played.{Stock, ArePlayed, AreReasoned, AreRoomy, MeetsFullJournal, MeetsNoImage, AsksFor, IsTooFull, IsAnsweredBy, WasRefused, reason_said}
+use Rattle.mmkv_top.specs.Played.{Stock, stocked, drawn, ArePlayed, AreReasoned, AreRoomy, MeetsFullJournal, MeetsNoImage, AsksFor, IsTooFull, IsAnsweredBy, WasRefused, reason_said}
 use Rattle.mmkv_top.specs.Play.{AreAnswered, AreInTime, IsWithin, AreLines, CanTake, IsFirstRefused, IsHalted, IsRefusedIn, not_yet}
 
 -- the opener runs this call
@@ -60,14 +64,14 @@ FollowsWork (Runs c stage) (Some r) = Follows c r
 FollowsWork _ _ = ⊥
 
 -- The last step of a line came to this, where the events so far are these and this call ran, if any, beside so many holds.
-abbrev pub CameTo : List Event → ℕ → Option Running → Step → OpenerState → Type 0
-CameTo past held r step.Going o = FollowsWork o.work r × (o.holds ≡ held)
-CameTo past held None step.Idle o = FollowsWork o.work None × (o.holds ≡ held)
-CameTo past held (Some r) (step.Blocked holder) o =
-    FollowsWork o.work (Some r) × (o.holds ≡ held) × ((kind : LockKind) × IsLeastAgainst (locks_after past) 1 kind holder)
-CameTo past held (Some r) (step.Answered a) o = (o.work ≡ Idle) × (o.holds ≡ holds_after r.call held) × IsAnsweredBy past r 1 a
-CameTo past held (Some r) (step.Stopped why) o = (o.work ≡ Idle) × (o.holds ≡ held)
-CameTo past held _ _ o = ⊥
+abbrev pub CameTo : ℕ → List Event → ℕ → Option Running → Step → OpenerState → Type 0
+CameTo who past held r step.Going o = FollowsWork o.work r × (o.holds ≡ held)
+CameTo who past held None step.Idle o = FollowsWork o.work None × (o.holds ≡ held)
+CameTo who past held (Some r) (step.Blocked holder) o =
+    FollowsWork o.work (Some r) × (o.holds ≡ held) × ((kind : LockKind) × IsLeastAgainst (locks_after past) who kind holder)
+CameTo who past held (Some r) (step.Answered a) o = (o.work ≡ Idle) × (o.holds ≡ holds_after r.call held) × IsAnsweredBy past r who a
+CameTo who past held (Some r) (step.Stopped why) o = (o.work ≡ Idle) × (o.holds ≡ held)
+CameTo who past held _ _ o = ⊥
 
 -- after so many steps of a line so many fewer are left to the call, within a data file of no fewer words than it has
 abbrev pub LeavesFewer : Step → Work → Work → ℕ → ℕ → Type 0
@@ -116,65 +120,84 @@ StoppedSaw _ start past = ⊤
 abbrev pub IsUnfull : Work → Type 0
 IsUnfull work = stop_found work ≢ Some stop.JournalFull
 
--- after fewer events than so many the call that runs asked for places that the journal hadn't
-pub record MetFull (start : Region) (past : List Event) (before : Option Running) (count : ℕ) : Type 0 where
+-- after fewer events than so many the call that runs asked for places that the journal hadn't, where so many openers were opened
+pub record MetFull (who opened : ℕ) (start : Region) (past : List Event) (before : Option Running) (count : ℕ) : Type 0 where
   pub call : Running
   pub runs : before ≡ Some call
   pub made : List Event
   pub few : length made < count
-  pub own : AreSteps 1 made
+  pub own : AreSteps who made
   pub asked : ℕ
-  pub asks : AsksFor start 1 call (made ++ past) asked
-  pub full : IsTooFull 1 (made ++ past) asked
+  pub asks : AsksFor start who call (made ++ past) asked
+  pub full : IsTooFull opened (made ++ past) asked
 
 -- so it is where a step came to that
-abbrev pub StoppedFull : Step → Region → List Event → Option Running → ℕ → Type 0
-StoppedFull (step.Stopped stop.JournalFull) start past before count = MetFull start past before count
-StoppedFull _ start past before count = ⊤
+abbrev pub StoppedFull : ℕ → ℕ → Step → Region → List Event → Option Running → ℕ → Type 0
+StoppedFull who opened (step.Stopped stop.JournalFull) start past before count = MetFull who opened start past before count
+StoppedFull who opened _ start past before count = ⊤
 
--- opener 1 was let in, and nobody else
-abbrev pub IsOnly : Seated → Type 0
-IsOnly s = (w : ℕ) → (account_of s.region.accounts w).admitted ≡ (nat_le 1 w && nat_le w 1)
+-- the first openers, so many, were let in, and nobody else
+abbrev pub IsOpenTo : ℕ → Local → Type 0
+IsOpenTo opened l = (w : ℕ) → 1 ≤ w → (account_of l.accounts w).admitted ≡ nat_le w opened
+
+-- the seat of an opener
+abbrev pub seat_at : ℕ → Local → Seated
+seat_at who l = record { who = who; region = l }
 
 -- The stores and growths of the call that runs, once a step came to this. The stores are among them.
 abbrev pub HasStored : Step → Work → Option Running → Type 0
 HasStored last work None = ⊤
 HasStored last work (Some r) = (stored : List What) × (stores_among r.since ≤ length stored) × AreStoredBy last work stored
 
--- all that opener 1 changed is settled by its answers, but what its running call has changed so far, where checksums tell payloads apart
-abbrev pub AreSettledAt : Work → Region → List Event → List Answer → Type 0
-AreSettledAt work start past answers = IsAccepted start → Apart start past → IsSettledBy 1 work start past answers
-
--- So many steps of opener 1, which was at this work, were made at most, the last of them came to this, and these are their events.
-pub record Stepped (start : Region) (past : List Event) (held : ℕ) (before : Option Running) (first : Work) (count : ℕ) (last : Step) (made : List Event) (o : OpenerState) (s : Seated) : Type 0 where
+-- So many steps of an opener, which was at this work, were made at most, the last of them came to this, and these are their events. So many
+-- openers were opened.
+pub record Stepped (who opened : ℕ) (start : Region) (past : List Event) (held : ℕ) (before : Option Running) (first : Work) (count : ℕ) (last : Step) (made : List Event) (o : OpenerState) (s : Seated) : Type 0 where
   pub few : length made ≤ count
-  pub own : AreSteps 1 made
+  pub own : AreSteps who made
   pub idle : before ≡ None → made ≡ []
-  pub who : o.who ≡ 1
-  pub seat : s.who ≡ 1
+  pub number : o.who ≡ who
+  pub seat : s.who ≡ who
   pub start_is : s.region.start ≡ start
   pub past_is : s.region.past ≡ made ++ past
   pub steady : s.region.failing.listed ≡ []
   pub answer : OnAnswer last (λ a. IsAnswer a s.region.start s.region.past)
-  pub came : CameTo s.region.past held (option_map (going_on made) before) last o
-  pub settled : (answers : List Answer) → AreSettledAt first start past answers → AreSettledAt o.work s.region.start s.region.past (answers ++ answers_by last)
+  pub came : CameTo who s.region.past held (option_map (going_on made) before) last o
   pub fewer : LeavesFewer last first o.work count (file_size (region_after s.region.start s.region.past))
   pub found : FoundIs o.work s.region.start s.region.past
   pub stopped : StoppedIs last before s.region.start s.region.past
-  pub alone : AreSteps 1 s.region.past
-  pub only : IsOnly s
+  pub live : NoneDies s.region.past
+  pub open_to : IsOpenTo opened s.region
   pub saw : FoundSaw o.work s.region.start s.region.past
   pub stopped_saw : StoppedSaw last s.region.start s.region.past
   pub unfull : IsUnfull o.work
-  pub full : StoppedFull last start past before count
+  pub full : StoppedFull who opened last start past before count
   pub stored : HasStored last o.work (option_map (going_on made) before)
 
--- the outcome of a line whose last step of opener 1 came to this, if it has one
-abbrev pub IsOutcomeAt : Step → Option Outcome → Type 0
-IsOutcomeAt (step.Blocked holder) o = o ≡ Some (Blocked 1 holder)
-IsOutcomeAt (step.Answered a) o = o ≡ Some (Answered a)
-IsOutcomeAt (step.Stopped why) o = (r : Reason) × (o ≡ Some (Stopped 1 r)) × (reason_said why ≡ Some r)
-IsOutcomeAt _ o = o ≡ None
+-- a step of an opener came to this and left it so; its answer is behind the others, and nobody else moved
+pub record Leaves (who : ℕ) (next : OpenerState) (came : Step) (old new : WorldState) : Type 0 where
+  pub openers : new.openers ≡ slice_set old.openers (who - 1) next
+  pub answers : new.answers ≡ old.answers ++ answers_by came
+
+-- so many steps of an opener that lived were made at most, and this is said of the last
+pub record Walks (who opened : ℕ) (start : Region) (past : List Event) (held : ℕ) (before : Option Running) (first : Work) (count : ℕ) (said : Moved) (old new : WorldState) : Type 0 where
+  pub next : OpenerState
+  pub came : Step
+  pub made : List Event
+  pub is : IsSaid (length old.answers) came said
+  pub stepped : Stepped who opened start past held before first count came made next (seat_at who new.region)
+  pub leaves : Leaves who next came old new
+
+-- the outcome of a line whose last step of an opener came to this, if it has one
+abbrev pub IsOutcomeAt : ℕ → Step → Option Outcome → Type 0
+IsOutcomeAt who (step.Blocked holder) o = o ≡ Some (Blocked who holder)
+IsOutcomeAt who (step.Answered a) o = o ≡ Some (Answered a)
+IsOutcomeAt who (step.Stopped why) o = (r : Reason) × (o ≡ Some (Stopped who r)) × (reason_said why ≡ Some r)
+IsOutcomeAt who _ o = o ≡ None
+
+-- an answer that is said of a step stands among the answers
+abbrev pub IsPlaced : ℕ → Moved → Type 0
+IsPlaced count (moved.Answered place) = place < count
+IsPlaced count _ = ⊤
 
 -- no reason is printed for what a call that stops so saw
 abbrev pub IsUnsaid : Stop → Type 0
@@ -192,82 +215,73 @@ IsHaltOf why halt.JournalFull = why ≡ stop.JournalFull
 IsHaltOf why halt.NotWhole = IsUnsaid why
 
 -- and so does a step that came to one
-abbrev pub HaltsBy : Step → Halt → Type 0
+abbrev pub HaltsBy : Moved → Halt → Type 0
 HaltsBy last halt.Memory = ⊤
-HaltsBy last why = (found : Stop) × (last ≡ step.Stopped found) × IsHaltOf found why
+HaltsBy last why = (found : Stop) × (last ≡ moved.Stopped found) × IsHaltOf found why
 
--- the outcome is added
-abbrev pub Notes : Step → PlayerState → PlayerState → Type 0
-Notes last old new = (o : Option Outcome) × IsOutcomeAt last o × (new ≡ record old { outcomes = old.outcomes ++ listed o })
+-- the text of a line whose last step of an opener came to this, where these are all answers
+abbrev pub IsTextOf : ℕ → List Answer → Moved → List ℕ → Type 0
+IsTextOf who answers (moved.Answered place) text = (a : Answer) × (slice_get answers place ≡ Some a) × (text ≡ outcome_line (Answered a))
+IsTextOf who answers (moved.Blocked holder) text = text ≡ outcome_line (Blocked who holder)
+IsTextOf who answers (moved.Stopped why) text = (r : Reason) × (text ≡ outcome_line (Stopped who r)) × (reason_said why ≡ Some r)
+IsTextOf who answers _ text = text ≡ []
 
--- what was answered was answered before the running call began
-abbrev pub AreEarlier : Option Running → List Answer → Type 0
-AreEarlier None answers = ⊤
-AreEarlier (Some r) answers = AreEndedBy (length (changes_of r.past)) answers
+-- it is added
+abbrev pub Notes : ℕ → List Answer → Moved → List ℕ → List ℕ → Type 0
+Notes who answers last old new = (more : List ℕ) × IsTextOf who answers last more × (new ≡ old ++ more)
 
--- what was answered so far, where this call runs, if any
-pub record HasAnswered (start : Region) (past : List Event) (r : Option Running) (answers : List Answer) : Type 0 where
-  pub are : AreAnswered start past answers
-  pub within : AreEndedBy (length (changes_of past)) answers
-  pub earlier : AreEarlier r answers
+-- what an opener answered was answered before its running call began
+abbrev pub AreEarlier : ℕ → Option Running → List Answer → Type 0
+AreEarlier who None answers = ⊤
+AreEarlier who (Some r) answers = All (λ a. a.who ≡ who → a.ended ≤ length (changes_of r.past)) answers
 
 -- the steps left to a call that runs, and those that were asked of it, are at most six a word and a hundred
 abbrev pub IsBounded : Work → ℕ → ℕ → Type 0
 IsBounded (Runs c stage) asked size = (words : ℕ) → size ≤ 4 * words → steps_left words (Runs c stage) + asked ≤ 6 * words + 100
 IsBounded _ asked size = ⊤
 
--- the one opener after these lines
-pub record IsOpened (start : Region) (parts : List Part) (o : OpenerState) (s : Seated) : Type 0 where
-  pub one : length (strategies parts) ≡ 1
-  pub tied : Tied o (seat_state s)
-  pub who : o.who ≡ 1
-  pub follows : FollowsWork o.work (running 1 parts)
-  pub holds : o.holds ≡ holds_of 1 parts
-  pub ours : AllByRecursion (λ e. e.who ≡ 1) (past_of parts)
-  pub answered : HasAnswered start (past_of parts) (running 1 parts) (answers_in (outcomes_of parts))
-  pub settles : AreSettledAt o.work start (past_of parts) (answers_in (outcomes_of parts))
-  pub bounded : IsBounded o.work (asked_of 1 parts) (file_size (region_after start (past_of parts)))
+-- an opener after these lines
+pub record IsOpened (start : Region) (parts : List Part) (who : ℕ) (o : OpenerState) : Type 0 where
+  pub follows : FollowsWork o.work (running who parts)
+  pub holds : o.holds ≡ holds_of who parts
+  pub earlier : AreEarlier who (running who parts) (answers_in (outcomes_of parts))
+  pub bounded : IsBounded o.work (asked_of who parts) (file_size (region_after start (past_of parts)))
   pub found : FoundIs o.work start (past_of parts)
-  pub only : IsOnly s
   pub saw : FoundSaw o.work start (past_of parts)
   pub unfull : IsUnfull o.work
-  pub stored : HasStored step.Going o.work (running 1 parts)
+  pub stored : HasStored step.Going o.work (running who parts)
 
--- no opener yet
-pub record IsUnopened (stock left : Stock) (parts : List Part) : Type 0 where
-  pub none : strategies parts ≡ []
-  pub past : past_of parts ≡ []
-  pub outcomes : outcomes_of parts ≡ []
-  pub idle : running 1 parts ≡ None
-  pub held : holds_of 1 parts ≡ 0
-  pub full : left ≡ stock
+-- so many openers were opened, and none has this number
+abbrev pub IsNobody : ℕ → ℕ → Type 0
+IsNobody opened who = (who ≡ 0) ⊎ (opened < who)
 
-abbrev pub OpenerAt : Stock → Stock → Region → List Part → Seated → Option OpenerState → Type 0
-OpenerAt stock left start parts s None = IsUnopened stock left parts
-OpenerAt stock left start parts s (Some o) = IsOpened start parts o s
+-- nothing was done by it
+pub record IsUnopened (parts : List Part) (who : ℕ) : Type 0 where
+  pub idle : running who parts ≡ None
+  pub held : holds_of who parts ≡ 0
 
--- the player has played these parts, and so much is left of the stock
-pub record IsAt (stock left : Stock) (start : Region) (parts : List Part) (p : PlayerState) : Type 0 where
-  pub start_is : p.seat.region.start ≡ start
-  pub past : p.seat.region.past ≡ past_of parts
-  pub outcomes : p.outcomes ≡ outcomes_of parts
-  pub steady : p.seat.region.failing.listed ≡ []
+-- these parts were played, and so much is left of the stock
+pub record IsAt (stock left : Stock) (start : Region) (parts : List Part) (p : PlayState) : Type 0 where
+  pub start_is : p.world.region.start ≡ start
+  pub past : p.world.region.past ≡ past_of parts
+  pub answers : p.world.answers ≡ answers_in (outcomes_of parts)
+  pub text : p.text ≡ flat_map outcome_line (outcomes_of parts)
+  pub steady : p.world.region.failing.listed ≡ []
+  pub live : NoneDies (past_of parts)
   pub each : ArePlayed stock parts
   pub in_time : AreInTime start parts
   pub reasoned : AreReasoned start parts
   pub roomy : AreRoomy parts
-  pub opener : OpenerAt stock left start parts p.seat p.opener
-
--- the opener is tied to the seat, or nothing has happened there yet, and the region it starts from is accepted
-abbrev pub IsReadyFor : Option OpenerState → Seated → Type 0
-IsReadyFor None s = (s.region.accounts ≡ replicate 65 no_account) × (s.region.past ≡ []) × IsAccepted s.region.start
-IsReadyFor (Some o) s = Tied o (seat_state s)
-
-abbrev pub IsReady : PlayerState → Type 0
-IsReady p = (p.seat.who ≡ 1) × IsReadyFor p.opener p.seat
+  pub answered : AreAnswered start (past_of parts) (answers_in (outcomes_of parts))
+  pub within : AreEndedBy (length (changes_of (past_of parts))) (answers_in (outcomes_of parts))
+  pub count : length p.world.openers ≡ length (strategies parts)
+  pub open_to : IsOpenTo (length (strategies parts)) p.world.region
+  pub drawn : (s : Strategy) → stocked left s + drawn s (strategies parts) ≡ stocked stock s
+  pub openers : (i : ℕ) (o : OpenerState) → slice_get p.world.openers i ≡ Some o → IsOpened start parts (i + 1) o
+  pub unopened : (who : ℕ) → IsNobody (length (strategies parts)) who → IsUnopened parts who
 
 -- a line was taken
-abbrev pub TakesOne : Stock → Stock → Region → List Part → Option Line → PlayerState → Type 0
+abbrev pub TakesOne : Stock → Stock → Region → List Part → Option Line → PlayState → Type 0
 TakesOne stock left start parts line new =
     (made : List Event) × (outcome : Option Outcome) × IsAt stock left start (record { line = line; made = made; outcome = outcome } ∷ parts) new
 
@@ -278,7 +292,7 @@ HasHalted stock start parts line halt.Memory = ⊤
 HasHalted stock start parts line halt.JournalFull = (l : Line) × (line ≡ Some l) × CanTake stock parts line × MeetsFullJournal start parts l
 HasHalted stock start parts line halt.NotWhole = (l : Line) × (line ≡ Some l) × CanTake stock parts line × MeetsNoImage start parts l
 
-abbrev pub Takes : {A : Type 0} → Stock → Stock → Region → List Part → Option Line → PlayerState → Result A Halt → Type 0
+abbrev pub Takes : {A : Type 0} → Stock → Stock → Region → List Part → Option Line → PlayState → Result A Halt → Type 0
 Takes stock left start parts line new (Ok _) = TakesOne stock left start parts line new
 Takes stock left start parts line new (Err why) = HasHalted stock start parts line why
 
@@ -291,7 +305,7 @@ pub record AreTaken (texts rest : List (List ℕ)) (parts : List Part) (count : 
   pub counted : count ≡ length front
 
 -- so many texts were taken, and these are left
-pub record IsTaken (stock left : Stock) (start : Region) (texts rest : List (List ℕ)) (p : PlayerState) (count : ℕ) : Type 0 where
+pub record IsTaken (stock left : Stock) (start : Region) (texts rest : List (List ℕ)) (p : PlayState) (count : ℕ) : Type 0 where
   pub parts : List Part
   pub taken : AreTaken texts rest parts count
   pub at : IsAt stock left start parts p
@@ -301,7 +315,7 @@ abbrev pub IsRefusedAfter : Stock → ℕ → List Part → List ℕ → Type 0
 IsRefusedAfter stock count parts text = (LARGEST_COUNT ≤ count) ⊎ (LARGEST_LINE < length text) ⊎ IsRefusedIn stock parts text
 
 -- the text of a line behind so many others was taken
-pub record TakesText (stock left : Stock) (start : Region) (parts : List Part) (count : ℕ) (text : List ℕ) (new : PlayerState) : Type 0 where
+pub record TakesText (stock left : Stock) (start : Region) (parts : List Part) (count : ℕ) (text : List ℕ) (new : PlayState) : Type 0 where
   pub few : count < LARGEST_COUNT
   pub short : length text ≤ LARGEST_LINE
   pub named : Option Line
@@ -315,7 +329,7 @@ TextHalts stock start parts count text halt.Memory = ⊤
 TextHalts stock start parts count text halt.JournalFull = (l : Line) × IsLine text (Some l) × CanTake stock parts (Some l) × MeetsFullJournal start parts l
 TextHalts stock start parts count text halt.NotWhole = (l : Line) × IsLine text (Some l) × CanTake stock parts (Some l) × MeetsNoImage start parts l
 
-abbrev pub TakesOrHalts : {A : Type 0} → Stock → Stock → Region → List Part → ℕ → List ℕ → PlayerState → Result A Halt → Type 0
+abbrev pub TakesOrHalts : {A : Type 0} → Stock → Stock → Region → List Part → ℕ → List ℕ → PlayState → Result A Halt → Type 0
 TakesOrHalts stock left start parts count text new (Ok _) = TakesText stock left start parts count text new
 TakesOrHalts stock left start parts count text new (Err why) = TextHalts stock start parts count text why
 

@@ -1,0 +1,9 @@
+//! Tests of a world of several openers. They stand beside `world`, since a crate that has tests is proved a second time with them.
+#![tactic(auto)]
+
+#[cfg(test)]
+mod openings;
+#[cfg(test)]
+mod turns;
+#[cfg(test)]
+mod worlds;
