@@ -18,6 +18,7 @@ pub mod Noticed
 pub mod PlanEvents
 pub mod Planned
 pub mod Planning
+pub mod QuickReads
 pub mod Quiet
 pub mod Ready
 pub mod Reserved

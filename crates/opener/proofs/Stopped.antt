@@ -1,5 +1,5 @@
 -- A call on the share that was not answered leaves the opener tied to it.
-use Rattle.std.proofs.Common.{◌≡◌, ℕ, arith, false, refl, sym, ◌∙◌, subst, ap, lit≤}
+use Rattle.std.proofs.Common.{◌≡◌, arith, false, refl, sym, ◌∙◌, subst, ap, lit≤}
 use Rattle.std.specs.Prelude.{Option, Some, None, ⊤}
 use Rattle.lock_rules.specs.declared.table.LockKind.{LockKind}
 use Rattle.region_words.specs.Told.{History, OnTold}
@@ -11,6 +11,7 @@ use Rattle.opener.specs.State.{OpenerState}
 use Rattle.opener.specs.Calls.{AfterStop}
 use Rattle.opener.specs.Ends.{lock_by}
 use Rattle.opener.specs.Opener.{Tied, Owes, running_as, is_storing}
+use Rattle.opener.specs.Quick.{ended_as}
 use Rattle.opener.specs.Writes.{first_events}
 use Rattle.opener.specs.declared.calls.Step.{Step}
 use Rattle.opener.specs.declared.work.Running.{Running}
@@ -53,10 +54,7 @@ turned_tied o s t tied away =
     (λ start past region lawful lock facts e. facts)
 
 -- it is dead
-abbrev ended_as : ℕ → OpenerState
-ended_as who = record { who = who; handled = false; image = None; holds = 0; work = Ended }
-
-failed_tied : (o : OpenerState) (s t : ShareState) → Tied o s → Fails s t → Tied (ended_as o.who) t
+pub failed_tied : (o : OpenerState) (s t : ShareState) → Tied o s → Fails s t → Tied (ended_as o.who) t
 failed_tied o s t tied fails =
     tied_after o (ended_as o.who) s t (failed s) (λ start past. ⊤) tied fails.after refl refl refl refl (lit≤ tt) tt refl (none_reserved s t (failed s) fails.after refl) (nothing_told t.told)
     (λ start past region lawful lock facts e. record { image = tt; rests = λ held. absurd cc; work = tt })

@@ -11,3 +11,5 @@ pub mod Bound
 pub mod Opener
 pub mod Settles
 pub mod Quiet
+pub mod Quick
+pub mod Lent

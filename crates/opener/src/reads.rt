@@ -182,6 +182,7 @@ impl Opener {
 impl Opener {
     ghost use Rattle.std.specs.Prelude.{◌≡◌, ◌≢◌, ◌<◌, ◌≤◌, None, Some, false};
     ghost use Rattle.opener.specs.Calls.{AfterStop};
+    ghost use Rattle.opener.specs.Quick.{ended_as};
     ghost use Rattle.opener.specs.Ends.{GoesOn, Waits, IsDone, Finishes, Leaves, Reads, Notices, IsLoaded, IsReady, OnImage, is_current};
 
     // The call goes on with this stage.
@@ -219,11 +220,18 @@ impl Opener {
         ensures who { self.new.who ≡ self.old.who }
         ensures left { (self.new.handled ≡ false) × (self.new.holds ≡ 0) × (self.new.image ≡ None) × (self.new.work ≡ Work.Ended) }
     {
+        self.end();
+        Step::Stopped(Stop::Fault)
+    }
+
+    // The opener ends, and keeps nothing.
+    pub(crate) fn end(&mut self)
+        ensures { self.new ≡ ended_as self.old.who }
+    {
         self.handler = None;
         self.holds = 0;
         self.image = None;
         self.set_work(Work::Ended);
-        Step::Stopped(Stop::Fault)
     }
 
     // The call is over, and the image is no longer kept.
@@ -291,7 +299,7 @@ impl Opener {
     }
 
     // Whether both peeks gave the words of the image that is kept.
-    fn is_current(&self, peek: Peek, sequence: u32) -> bool
+    pub(crate) fn is_current(&self, peek: Peek, sequence: u32) -> bool
         ensures { result ≡ is_current self.now.image peek sequence }
     {
         match &self.image {

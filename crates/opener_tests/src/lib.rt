@@ -2,6 +2,9 @@
 #![tactic(auto)]
 
 #[cfg(test)]
+mod quick;
+#[cfg(test)]
 mod reads;
+mod silent;
 #[cfg(test)]
 mod writes;

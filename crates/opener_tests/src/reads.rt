@@ -23,7 +23,7 @@ pub(crate) const META: [u8; 40] =
     *b"\xd3\x95\x65\x3a\x03\0\0\0\x01\0\0\0\0\0\0\0\0\0\0\0\0\0\0\0\0\0\0\0\x0b\0\0\0\x04\0\0\0\xd1\x85\x99\x4c";
 
 // A seat at a region of these files. Its calls of the listed numbers fail.
-fn seat_at(alloc: Global, body: &[u8], meta: &[u8], fails: &[u64]) -> Option<LocalSeat>
+pub(crate) fn seat_at(alloc: Global, body: &[u8], meta: &[u8], fails: &[u64]) -> Option<LocalSeat>
     ensures alive { IfSome result (λ s. (seat_state s).ended ≡ false) }
     ensures free { IfSome result (λ s. (seat_state s).holds ≡ None) }
     ensures accepted { IfSome result (λ s. OnTold (seat_state s).told (λ h. IsAccepted h.start)) }
@@ -38,7 +38,7 @@ fn seat_at(alloc: Global, body: &[u8], meta: &[u8], fails: &[u64]) -> Option<Loc
 }
 
 // An opener that has made no call.
-fn opener_of<S: Share>(alloc: Global, share: &S) -> Option<Opener>
+pub(crate) fn opener_of<S: Share>(alloc: Global, share: &S) -> Option<Opener>
     requires alive { (S.state share.now).ended ≡ false }
     requires free { (S.state share.now).holds ≡ None }
     requires accepted { OnTold (S.state share.now).told (λ h. IsAccepted h.start) }
@@ -67,7 +67,12 @@ fn finish<S: Share>(opener: &mut Opener, share: &mut S, most: u32) -> Step
 }
 
 // A whole call.
-fn ask<S: Share>(opener: &mut Opener, share: &mut S, call: Call, now: u32) -> Option<Step>
+pub(crate) fn ask<S: Share>(
+    opener: &mut Opener,
+    share: &mut S,
+    call: Call,
+    now: u32,
+) -> Option<Step>
     requires tied { Tied opener.old (S.state share.old) }
     requires built { IsBuilt call }
     ensures { Tied opener.new (S.state share.new) }

@@ -1,0 +1,123 @@
+// Quick reads of an opener, over a region in memory and over a share that tells nothing.
+ghost use Rattle.opener.specs.Opener.{Tied};
+
+use crate::reads::{BODY, META, ask, get, opener_of, seat_at, stopped};
+use crate::silent::Silent;
+use opener::{Opener, Quick, Stop};
+use region_words::Share;
+use std::alloc::Global;
+use std::mem;
+
+// Whether a quick read finds the value that is wanted, or why it isn't answered. None where a call runs or the opener has ended.
+type Look = Option<Result<bool, Quick>>;
+
+// A quick read that wants this value.
+fn finds<S: Share>(opener: &mut Opener, share: &mut S, key: &[u8], want: Option<&[u8]>) -> Look
+    requires { Tied opener.old (S.state share.old) }
+    ensures { Tied opener.new (S.state share.new) }
+{
+    if !opener.is_idle() {
+        return None;
+    }
+    match opener.quick_get(share, key, 100) {
+        Ok(value) => Some(Ok(value == want)),
+        Err(why) => Some(Err(why)),
+    }
+}
+
+// What quick reads come to: one before any call, and after a get two, of the key of the store and of one that it hasn't.
+#[derive(Drop)]
+struct Looks {
+    before: Look,
+    stop: Option<Stop>,
+    found: Look,
+    absent: Look,
+    ended: bool,
+    events: usize,
+}
+
+// Those of a new opener, whose calls on its share of the listed numbers fail.
+fn looks_of(alloc: Global, fails: &[u64]) -> Option<Looks> {
+    let mut seat = seat_at(alloc, &BODY, &META, fails)?;
+    let mut opener = opener_of(alloc, &seat)?;
+    let before = finds(&mut opener, &mut seat, b"k", None);
+    let step = ask(&mut opener, &mut seat, get(alloc).ok()?, 100);
+    let found = finds(&mut opener, &mut seat, b"k", Some(b"\x03abc"));
+    let absent = finds(&mut opener, &mut seat, b"a", None);
+    let ended = opener.is_ended();
+    mem::drop(opener);
+    Some(Looks {
+        before,
+        stop: stopped(step.as_ref()),
+        found,
+        absent,
+        ended,
+        events: seat.region().journal().len(),
+    })
+}
+
+// What a quick read comes to after a get, where the region then has this checksum and this sequence.
+fn look_after_a_get(alloc: Global, checksum: u32, sequence: u32) -> Look {
+    let mut share = Silent::new(
+        [11, 0x07ff_ffff, 0x0304_6b01, 0x0063_6261],
+        [0x3a65_95d3, 3, 1, 0, 0, 0, 0, 11, 4, 0x4c99_85d1],
+    );
+    let mut opener = opener_of(alloc, &share)?;
+    let step = ask(&mut opener, &mut share, get(alloc).ok()?, 100);
+    mem::drop(step);
+    share.change(checksum, sequence);
+    let look = finds(&mut opener, &mut share, b"k", Some(b"\x03abc"));
+    mem::drop(opener);
+    look
+}
+
+#[test]
+fn where_either_word_is_another_a_quick_read_is_stale(rt: HostRuntime) {
+    let alloc = rt.alloc();
+    let stale = |checksum, sequence| Some(Err(Quick::Stale { checksum, sequence }));
+    assert_eq!(rt; look_after_a_get(alloc, 0x3a65_95d3, 1), Some(Ok(true)));
+    assert_eq!(rt;
+        look_after_a_get(alloc, 0x3a65_95d3, 2),
+        stale(0x3a65_95d3, 2)
+    );
+    assert_eq!(rt; look_after_a_get(alloc, 7, 1), stale(7, 1));
+    assert_eq!(rt; look_after_a_get(alloc, 7, 2), stale(7, 2));
+}
+
+#[test]
+fn without_an_image_a_quick_read_is_cold_and_loads_nothing(rt: HostRuntime) {
+    let looks = looks_of(rt.alloc(), &[0]).expect(&rt, "ample memory");
+    assert_eq!(rt; looks.before, Some(Err(Quick::Cold)));
+    assert_eq!(rt; looks.stop, Some(Stop::Fault));
+}
+
+#[test]
+fn after_a_get_quick_reads_give_its_values_with_no_event(rt: HostRuntime) {
+    let looks = looks_of(rt.alloc(), &[]).expect(&rt, "ample memory");
+    assert_eq!(rt; looks.found, Some(Ok(true)));
+    assert_eq!(rt; looks.absent, Some(Ok(true)));
+    assert_eq!(rt; looks.ended, false);
+    assert_eq!(rt; looks.events, 2);
+}
+
+#[test]
+fn a_peek_that_fails_ends_the_opener(rt: HostRuntime) {
+    for fails in [15u64, 16] {
+        let looks = looks_of(rt.alloc(), &[fails]).expect(&rt, "ample memory");
+        assert_eq!(rt; looks.found, Some(Err(Quick::Fault)), "call {fails}");
+        assert_eq!(rt; looks.absent, None);
+        assert_eq!(rt; looks.ended, true);
+        assert_eq!(rt; looks.events, 3);
+    }
+}
+
+#[test]
+fn a_quick_read_makes_two_calls(rt: HostRuntime) {
+    for fails in [17u64, 18] {
+        let looks = looks_of(rt.alloc(), &[fails]).expect(&rt, "ample memory");
+        assert_eq!(rt; looks.found, Some(Ok(true)), "call {fails}");
+        assert_eq!(rt; looks.absent, Some(Err(Quick::Fault)));
+    }
+    let looks = looks_of(rt.alloc(), &[19]).expect(&rt, "ample memory");
+    assert_eq!(rt; looks.ended, false);
+}
