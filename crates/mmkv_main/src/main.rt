@@ -6,8 +6,6 @@ mod std_sink;
 mod std_source;
 mod words;
 
-ghost use Rattle.std.specs.Prelude.{◌≡◌, [], All, IfOk};
-
 use crate::dir_shelf::DirShelf;
 use crate::std_sink::StdSink;
 use crate::std_source::StdSource;
@@ -15,7 +13,7 @@ use crate::words::words;
 use expiring_map::Bytes;
 use handlers::{Handler, HandlerStock, Steady, Strategy};
 use mmkv_top::run;
-use std::alloc::{AllocError, Global};
+use std::alloc::AllocError;
 use std::process::ExitCode;
 
 fn main(rt: HostRuntime) -> ExitCode {
@@ -36,30 +34,18 @@ fn main(rt: HostRuntime) -> ExitCode {
     }
 }
 
-// As many openers as a script may open.
-const MOST_OPENERS: usize = 64;
-
-// The status of a command over a directory. Each opener of a script may have a handler of any strategy.
+// The status of a command over a directory. There is a handler of each strategy, for three openers of a script.
 fn status_of(rt: &HostRuntime, words: &[Bytes], directory: Bytes) -> Result<u8, AllocError> {
     let alloc = rt.alloc();
-    let stock = HandlerStock::new(
-        handlers(alloc, Strategy::Discard)?,
-        handlers(alloc, Strategy::Recover)?,
-        handlers(alloc, Strategy::Leave)?,
-    );
+    let mut discard: Vec<Box<dyn Handler + Send>> = Vec::new(alloc);
+    discard.push(Box::new(alloc, Steady::new(alloc, Strategy::Discard))?)?;
+    let mut recover: Vec<Box<dyn Handler + Send>> = Vec::new(alloc);
+    recover.push(Box::new(alloc, Steady::new(alloc, Strategy::Recover))?)?;
+    let mut leave: Vec<Box<dyn Handler + Send>> = Vec::new(alloc);
+    leave.push(Box::new(alloc, Steady::new(alloc, Strategy::Leave))?)?;
+    let stock = HandlerStock::new(discard, recover, leave);
     let mut shelf = DirShelf::new(rt, directory);
     let mut input = StdSource::new(rt);
     let mut out = StdSink::new(rt);
     Ok(run(alloc, words, &mut shelf, &mut input, &mut out, stock).0)
-}
-
-// A handler for each opener that answers with this strategy.
-fn handlers(alloc: Global, strategy: Strategy) -> Result<Vec<Box<dyn Handler + Send>>, AllocError>
-    ensures { IfOk result (λ all. All (λ h. (told h ≡ []) × (changes_told h ≡ [])) all.items) }
-{
-    let mut all: Vec<Box<dyn Handler + Send>> = Vec::new(alloc);
-    for _ in 0..MOST_OPENERS {
-        all.push(Box::new(alloc, Steady::new(alloc, strategy))?)?;
-    }
-    Ok(all)
 }

@@ -289,4 +289,3 @@ begin_halted stock left start parts p who now call (begin.Refused why) at (o, li
     let none = refused_never o.work call o.holds idle (subst (λ h. call_refusal call h ≡ None) (sym op.holds) may.asks) in
     let both : None ≡ Some why = sym none ∙ refuses in absurd cc
 begin_halted stock left start parts p who now call begin.Memory at is = tt
-

@@ -622,4 +622,3 @@ at_most who opened start past held before first n count result made o s below al
     go step.Again all fewer = tt
     go (step.Answered a) all fewer = tt
     go (step.Stopped why) all fewer = tt
-

@@ -132,13 +132,7 @@ fn lacks_places(world: &World, who: u32) -> bool
 }
 
 // Adds the text of what an opener's last step came to, if it ends the line.
-fn note(
-    alloc: Global,
-    world: &World,
-    who: u32,
-    last: Moved,
-    text: &mut Vec<u8>,
-) -> Result<(), Halt>
+fn note(alloc: Global, world: &World, who: u32, last: Moved, text: &mut Vec<u8>) -> Result<(), Halt>
     requires { IsPlaced (length world.now.answers) last }
     ensures ok { OnOk result (Notes who world.now.answers last text.old.items text.new.items) }
     ensures err { IfErr result (HaltsBy last) }

@@ -55,7 +55,8 @@ fn a_put_of_another_is_read_by_the_next_get(rt: HostRuntime) -> Result<(), Fail>
         alloc,
         b"open leave\nopen leave\nbegin 1 100 get 6b\nstep 1 100\nbegin 1 100 get 6b\nstep 1 1\nbegin 2 100 put 6b text 64 0\nstep 2 100\nstep 1 1\nbegin 1 100 get 6b\nstep 1 100\n",
     )?;
-    let answers = b"answer 1 get 6b now 100 begun 0 place 0 ended 0 loads 13 stores 0 locks 1 reply value 03616263\nanswer 2 put 6b 0164 0 now 100 begun 0 place 0 ended 1 loads 14 stores 5 locks 1 reply done\nanswer 1 get 6b now 100 begun 0 place 0 ended 1 loads 2 stores 0 locks 0 reply value 03616263\nanswer 1 get 6b now 100 begun 1 place 1 ended 1 loads 16 stores 0 locks 1 reply value 0164\n";
+    let answers =
+        b"answer 1 get 6b now 100 begun 0 place 0 ended 0 loads 13 stores 0 locks 1 reply value 03616263\nanswer 2 put 6b 0164 0 now 100 begun 0 place 0 ended 1 loads 14 stores 5 locks 1 reply done\nanswer 1 get 6b now 100 begun 0 place 0 ended 1 loads 2 stores 0 locks 0 reply value 03616263\nanswer 1 get 6b now 100 begun 1 place 1 ended 1 loads 16 stores 0 locks 1 reply value 0164\n";
     assert_eq!(rt; status, 0);
     assert_eq!(rt; text, joined(alloc, &[answers, AFTER_A_PUT])?);
     Ok(())
@@ -68,7 +69,8 @@ fn a_put_waits_for_the_hold_of_another(rt: HostRuntime) -> Result<(), Fail> {
         alloc,
         b"open leave\nopen leave\nbegin 1 100 hold\nstep 1 1\nbegin 2 100 put 6b text 64 0\nstep 2 1\nbegin 1 100 release\nstep 1 1\nstep 2 100\n",
     )?;
-    let answers = b"answer 1 hold now 100 begun 0 place 0 ended 0 loads 0 stores 0 locks 1 reply done\nblocked 2 by 1\nanswer 1 release now 100 begun 0 place 0 ended 0 loads 0 stores 0 locks 0 reply done\nanswer 2 put 6b 0164 0 now 100 begun 0 place 0 ended 1 loads 14 stores 5 locks 1 reply done\n";
+    let answers =
+        b"answer 1 hold now 100 begun 0 place 0 ended 0 loads 0 stores 0 locks 1 reply done\nblocked 2 by 1\nanswer 1 release now 100 begun 0 place 0 ended 0 loads 0 stores 0 locks 0 reply done\nanswer 2 put 6b 0164 0 now 100 begun 0 place 0 ended 1 loads 14 stores 5 locks 1 reply done\n";
     assert_eq!(rt; status, 0);
     assert_eq!(rt; text, joined(alloc, &[answers, AFTER_A_PUT])?);
     Ok(())

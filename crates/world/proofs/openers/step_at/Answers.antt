@@ -38,7 +38,7 @@ returns-clause-room g c =
     let e = c.step-came.ensures in
     let made : Made o c.step-came.new.self c.step-came.result (seat_state c.turn_to.new.self) (seat_state c.step-came.new.share) = record { tied = e.tied; makes = e.makes; adds = e.adds; call = e.call; cause = e.cause; answer = e.answer; falls = e.falls; settles = e.settles } in
     let room = room_after c.args.seat.now.region c.turn_to.new.self c.step-came.new.share items c.args.answers.now.items c.args.place o c.step-came.new.self c.step-came.result c.requires.world at c.turn_to.ensures made
-        (vec_capacity c.args.answers.now) (omega (arith, c.requires.room, c.args.answers.now.ok.0)) in
+    (vec_capacity c.args.answers.now) (omega (arith, c.requires.room, c.args.answers.now.ok.0)) in
     omega (arith, room, ap length c.said.ensures.answers, c.said.new.answers.ok.0, c.said.ensures.capacity)
 
 pub returns-clause-moves : goal.returns-clause-moves
@@ -49,7 +49,7 @@ returns-clause-moves g c =
     let e = c.step-came.ensures in
     let made : Made o c.step-came.new.self c.step-came.result (seat_state c.turn_to.new.self) (seat_state c.step-came.new.share) = record { tied = e.tied; makes = e.makes; adds = e.adds; call = e.call; cause = e.cause; answer = e.answer; falls = e.falls; settles = e.settles } in
     let steps = steps_are c.args.seat.now.region c.turn_to.new.self c.step-came.new.share items c.args.answers.now.items c.args.place o c.step-came.new.self c.step-came.result c.requires.world at c.turn_to.ensures made
-        c.said.new.answers.items c.said.ensures.answers (c.requires.alive o at) in
+    c.said.new.answers.items c.said.ensures.answers (c.requires.alive o at) in
     moves_by _ _ c.said.result _ _ o c.step-came.new.self c.step-came.result c.said.ensures.said (omega (arith, c.args.answers.now.ok.0)) steps
 
 pub returns-clause-held : goal.returns-clause-held
