@@ -6,6 +6,8 @@ mod std_sink;
 mod std_source;
 mod words;
 
+ghost use Rattle.std.specs.Prelude.{◌≡◌, [], All, OnOk};
+
 use crate::dir_shelf::DirShelf;
 use crate::std_sink::StdSink;
 use crate::std_source::StdSource;
@@ -34,18 +36,45 @@ fn main(rt: HostRuntime) -> ExitCode {
     }
 }
 
-// The status of a command over a directory. There is a handler of each strategy, for three openers of a script.
+// As many openers as a script may open.
+const MOST_OPENERS: usize = 64;
+
+// The status of a command over a directory. Each opener of a script may have a handler of any strategy.
 fn status_of(rt: &HostRuntime, words: &[Bytes], directory: Bytes) -> Result<u8, AllocError> {
     let alloc = rt.alloc();
     let mut discard: Vec<Box<dyn Handler + Send>> = Vec::new(alloc);
-    discard.push(Box::new(alloc, Steady::new(alloc, Strategy::Discard))?)?;
     let mut recover: Vec<Box<dyn Handler + Send>> = Vec::new(alloc);
-    recover.push(Box::new(alloc, Steady::new(alloc, Strategy::Recover))?)?;
     let mut leave: Vec<Box<dyn Handler + Send>> = Vec::new(alloc);
-    leave.push(Box::new(alloc, Steady::new(alloc, Strategy::Leave))?)?;
+    for _ in 0..MOST_OPENERS {
+        add(
+            &mut discard,
+            Box::new(alloc, Steady::new(alloc, Strategy::Discard))?,
+        )?;
+        add(
+            &mut recover,
+            Box::new(alloc, Steady::new(alloc, Strategy::Recover))?,
+        )?;
+        add(
+            &mut leave,
+            Box::new(alloc, Steady::new(alloc, Strategy::Leave))?,
+        )?;
+    }
     let stock = HandlerStock::new(discard, recover, leave);
     let mut shelf = DirShelf::new(rt, directory);
     let mut input = StdSource::new(rt);
     let mut out = StdSink::new(rt);
     Ok(run(alloc, words, &mut shelf, &mut input, &mut out, stock).0)
+}
+
+// Adds a handler that was not asked or told anything yet.
+fn add(
+    all: &mut Vec<Box<dyn Handler + Send>>,
+    handler: Box<dyn Handler + Send>,
+) -> Result<(), AllocError>
+    requires so_far { All (λ h. (told h ≡ []) × (changes_told h ≡ [])) all.old.items }
+    requires new { (told handler ≡ []) × (changes_told handler ≡ []) }
+    ensures { OnOk result (All (λ h. (told h ≡ []) × (changes_told h ≡ [])) all.new.items) }
+{
+    all.push(handler)?;
+    Ok(())
 }
