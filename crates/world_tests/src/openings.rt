@@ -1,5 +1,5 @@
 // Openers and their numbers.
-use crate::worlds::{ask, finish, fresh, get, handler, numbers, put, stored};
+use crate::worlds::{finish, fresh, get, handler, numbers, put, stored};
 use change_log::Call;
 use expiring_map::Bytes;
 use opener::{Refused, Stop};
@@ -30,7 +30,8 @@ fn the_sixty_fifth_is_refused(rt: HostRuntime) {
     let alloc = rt.alloc();
     let mut world = fresh(alloc, MOST_OPENERS as u32).expect(&rt, "ample memory");
     assert_eq!(rt; opened(alloc, &mut world), Some(Err(OpenStop::TooMany)));
-    assert_eq!(rt; ask(&mut world, 64, Call::Count), Some(Moved::Answered(0)));
+    assert_eq!(rt; world.begin(64, Call::Count, 100), Ok(()));
+    assert_eq!(rt; finish(&mut world, 64), Moved::Answered(0));
 }
 
 #[test]
@@ -74,10 +75,12 @@ fn an_opener_whose_call_on_the_region_fails_is_gone(rt: HostRuntime) -> Result<(
     let alloc = rt.alloc();
     let mut world = stored(alloc, &[3], 2).expect(&rt, "ample memory");
     let put = put(alloc, b"k", b"\x01d")?;
-    assert_eq!(rt; ask(&mut world, 1, put), Some(Moved::Stopped(Stop::Fault)));
+    assert_eq!(rt; world.begin(1, put, 100), Ok(()));
+    assert_eq!(rt; finish(&mut world, 1), Moved::Stopped(Stop::Fault));
     assert_eq!(rt; world.step(1), Moved::NoOpener);
     assert_eq!(rt; world.begin(1, Call::Count, 100), Err(WorldStop::NoOpener));
-    assert_eq!(rt; ask(&mut world, 2, get(alloc)?), Some(Moved::Answered(0)));
+    assert_eq!(rt; world.begin(2, get(alloc)?, 100), Ok(()));
+    assert_eq!(rt; finish(&mut world, 2), Moved::Answered(0));
     assert_eq!(rt; opened(alloc, &mut world), Some(Ok(3)));
     Ok(())
 }
@@ -87,7 +90,8 @@ fn a_region_is_handed_back_without_its_openers(rt: HostRuntime) -> Result<(), Fa
     let alloc = rt.alloc();
     let mut world = stored(alloc, &[], 1).expect(&rt, "ample memory");
     let put = put(alloc, b"k", b"\x01d")?;
-    assert_eq!(rt; ask(&mut world, 1, put), Some(Moved::Answered(0)));
+    assert_eq!(rt; world.begin(1, put, 100), Ok(()));
+    assert_eq!(rt; finish(&mut world, 1), Moved::Answered(0));
     let (data, _) = world.into_region().into_bytes();
     assert_eq!(rt; data.len(), 4096);
     assert_eq!(rt; &data[..4], b"\x10\0\0\0".as_slice());

@@ -80,14 +80,6 @@ pub(crate) fn finish(world: &mut World, who: u32) -> Moved {
     Moved::Going
 }
 
-// A whole call at second 100. One that isn't begun has no end.
-pub(crate) fn ask(world: &mut World, who: u32, call: Call) -> Option<Moved>
-    requires { IsBuilt call }
-{
-    world.begin(who, call, 100).ok()?;
-    Some(finish(world, who))
-}
-
 // Who answered, when the call began, where it stands and when it was answered, and the stores and locks that it took.
 pub(crate) fn numbers(world: &World, place: usize) -> Option<(u32, u32, u32, u32, u32, u32)> {
     let answer = world.answers().get(place)?;
