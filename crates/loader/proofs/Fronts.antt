@@ -27,7 +27,7 @@ four_bytes (a ∷ b ∷ c ∷ d ∷ ys) small le =
     sym (word_bytes a b c d (small 0 (omega arith)) (small 1 (omega arith)) (small 2 (omega arith)) (small 3 (omega arith)))
 
 -- the bytes of a word are those that stand there
-word-bytes-at : (xs : List ℕ) (w : ℕ) → All (λ b. b < 256) xs → 4 * w + 4 ≤ length xs → take 4 (drop (4 * w) xs) ≡ to_le_bytes w32 (word_at xs w)
+pub word-bytes-at : (xs : List ℕ) (w : ℕ) → All (λ b. b < 256) xs → 4 * w + 4 ≤ length xs → take 4 (drop (4 * w) xs) ≡ to_le_bytes w32 (word_at xs w)
 word-bytes-at xs w small le =
     let at = λ (i : ℕ). get_or-drop (4 * w) xs i 0 in
     let below : (i : ℕ) → i < 4 → slice_index (drop (4 * w) xs) i < 256 = λ i lt. omega (arith, at i, small (4 * w + i) 0 (omega (arith, lt, le))) in

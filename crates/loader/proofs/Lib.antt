@@ -5,3 +5,6 @@ pub mod Telling
 pub mod Taken
 pub mod Written
 pub mod Finished
+pub mod RecordAnswered
+pub mod GoingOn
+pub mod PartTelling

@@ -3,3 +3,5 @@ pub mod Candidates
 pub mod Outlooks
 pub mod Loads
 pub mod Inside
+pub mod PartialLoads
+pub mod PartialInside

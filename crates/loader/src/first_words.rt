@@ -128,7 +128,7 @@ impl FirstWords {
 }
 
 // The word in which the next byte of this payload would stand, with zeros from there on.
-fn tail_of(payload: &[u8]) -> u32
+pub fn tail_of(payload: &[u8]) -> u32
     ensures { result ≡ tail_of payload.now (length payload.now) }
 {
     let begun = &payload[payload.len() / 4 * 4..];

@@ -7,8 +7,11 @@ mod found;
 mod loaded;
 mod loading;
 mod outlook;
+mod partial;
+mod record_words;
 mod stops;
 
 pub use loaded::{Image, Loaded};
 pub use loading::{Loading, Went};
+pub use partial::{PartialLoading, Ran};
 pub use stops::LoadStop;
