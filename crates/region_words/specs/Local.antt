@@ -11,7 +11,7 @@ use Rattle.region_words.specs.Past.{region_after, changes_of, locks_after, has_d
 use Rattle.region_words.specs.Lawful.{Lawful}
 use Rattle.region_words.specs.Outside.{Tally, one_more, after_call}
 use Rattle.region_words.specs.Stores.{filled_up}
-use Rattle.region_words.specs.Share.{ShareState, most_events, total, unlock_place, lock_of}
+use Rattle.region_words.specs.Share.{ShareState, most_events, total, unlock_place, lock_of, places_kept}
 use Rattle.region_words.specs.declared.account.Account.{Account}
 use Rattle.region_words.specs.declared.places.AdmitStop.{AdmitStop}
 use Rattle.region_words.specs.declared.places.AdmitStop.TheVariants.{JournalFull, Memory}
@@ -37,7 +37,7 @@ no_account = record { admitted = false; kept = 0; room = 0; faults = 0; loads = 
 abbrev pub account_of : List Account → ℕ → Account
 account_of accounts who = slice_index_or accounts who no_account
 
--- the places kept for all openers
+-- the places in the accounts of all openers
 abbrev pub kept_in : List Account → ℕ
 kept_in accounts = total (λ w. (account_of accounts w).kept) 64
 
@@ -48,6 +48,10 @@ lock_after past who = lock_of (locks_after past) who
 -- the places of an opener that aren't for its death or its unlock
 abbrev pub reserved_in : Local → ℕ → ℕ
 reserved_in l who = (account_of l.accounts who).kept - (1 + unlock_place (lock_after l.past who))
+
+-- the places kept for all openers, by what has happened
+abbrev pub kept_after : Local → ℕ
+kept_after l = places_kept (λ w. (account_of l.accounts w).admitted) (reserved_in l) l.past
 
 -- an account agrees with what has happened
 pub record IsAccount (past : List Event) (who : ℕ) (a : Account) : Type 0 where
@@ -152,7 +156,6 @@ seat_state s =
       admitted = λ w. (account_of l.accounts w).admitted;
       reserved = reserved_in l;
       room = λ w. (account_of l.accounts w).room;
-      kept = kept_in l.accounts;
       fails = Some l.failing.listed;
       calls = l.failing.made;
       counts = record { faults = a.faults; loads = a.loads; busy = a.busy; turns = 0 };
@@ -178,7 +181,7 @@ HasRoomToGrow l who _ = ⊤
 
 -- why so many places more aren't kept
 abbrev pub LacksPlaces : Local → ℕ → AdmitStop → Type 0
-LacksPlaces l asked = LacksRoom (length l.past + kept_in l.accounts + asked)
+LacksPlaces l asked = LacksRoom (length l.past + kept_after l + asked)
 
 -- the account of an opener that was admitted
 abbrev pub after_admission : Account → Account
