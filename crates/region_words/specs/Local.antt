@@ -19,7 +19,7 @@ use Rattle.region_words.specs.declared.stops.ShareStop.{ShareStop}
 use Rattle.region_words.specs.declared.stops.ShareStop.TheVariants as share
 use Rattle.region_words.specs.Places.{LacksRoom}
 use Rattle.region_words.specs.declared.event.What.{What}
-use Rattle.region_words.specs.declared.event.What.TheVariants.{Grow, Lock, Unlock, Died}
+use Rattle.region_words.specs.declared.event.What.TheVariants.{Store, Grow, Lock, Unlock, Died}
 use Rattle.region_words.specs.declared.event.Event.{Event}
 
 -- A region in memory. The accounts are those of the openers 1 to 64, at their numbers; `failing` has the calls that are to
@@ -89,22 +89,27 @@ with_account l who a = record l { accounts = slice_set l.accounts who a }
 
 -- what an event leaves of the account of its opener
 abbrev pub account_after : What → Account → Account
+account_after (Store side word value mark) a = record a { kept = a.kept - 1 }
+account_after (Grow size) a = record a { kept = a.kept - 1 }
 account_after (Lock kind) a = record a { kept = a.kept + 1 }
 account_after Unlock a = record a { kept = 1; room = 0 }
 account_after (Died torn) a = record a { kept = 0; room = 0 }
-account_after _ a = record a { kept = a.kept - 1 }
 
 -- an event takes one of the places that are kept for its opener
 abbrev pub IsKeptFor : Account → Option LockKind → What → Type 0
+IsKeptFor a lock (Store side word value mark) = 0 < a.kept - (1 + unlock_place lock)
+IsKeptFor a lock (Grow size) = 0 < a.kept - (1 + unlock_place lock)
 IsKeptFor a lock (Lock kind) = 0 < a.kept
 IsKeptFor a lock Unlock = ⊤
 IsKeptFor a lock (Died torn) = 0 < a.kept
-IsKeptFor a lock _ = 0 < a.kept - (1 + unlock_place lock)
 
 -- a lock wants a place for itself and keeps one for its unlock
 abbrev pub HasRoomFor : Local → What → Type 0
+HasRoomFor l (Store side word value mark) = ⊤
+HasRoomFor l (Grow size) = ⊤
 HasRoomFor l (Lock kind) = length l.past + kept_in l.accounts + 2 ≤ most_events
-HasRoomFor l _ = ⊤
+HasRoomFor l Unlock = ⊤
+HasRoomFor l (Died torn) = ⊤
 
 -- the journal has a place for this event
 pub record HasPlace (l : Local) (who : ℕ) (what : What) : Type 0 where
@@ -176,8 +181,11 @@ pub record Keeps (l : Local) (body meta : List ℕ) (locks : Locks) (kept change
 
 -- a growth has room
 abbrev pub HasRoomToGrow : Local → ℕ → What → Type 0
+HasRoomToGrow l who (Store side word value mark) = ⊤
 HasRoomToGrow l who (Grow size) = size ≤ (account_of l.accounts who).room
-HasRoomToGrow l who _ = ⊤
+HasRoomToGrow l who (Lock kind) = ⊤
+HasRoomToGrow l who Unlock = ⊤
+HasRoomToGrow l who (Died torn) = ⊤
 
 -- why so many places more aren't kept
 abbrev pub LacksPlaces : Local → ℕ → AdmitStop → Type 0

@@ -11,7 +11,7 @@ use Rattle.region_words.specs.Coming.{IsComing}
 use Rattle.region_words.specs.Told.{History, OnTold}
 use Rattle.region_words.specs.Share.{ShareState, Agrees}
 use Rattle.region_words.specs.declared.event.What.{What}
-use Rattle.region_words.specs.declared.event.What.TheVariants.{Store, Grow}
+use Rattle.region_words.specs.declared.event.What.TheVariants.{Store, Grow, Lock, Unlock, Died}
 use Rattle.region_words.specs.declared.event.Event.{Event}
 
 -- what the exclusive holder may store in this region, whatever the checksums are
@@ -39,8 +39,11 @@ pub record Owes (row : Row) (events : List What) (s : ShareState) (h : History) 
 
 -- it grows the file, if at all, to no more than this size
 abbrev pub IsWithin : ℕ → What → Type 0
+IsWithin room (Store side word value mark) = ⊤
 IsWithin room (Grow size) = size ≤ room
-IsWithin room _ = ⊤
+IsWithin room (Lock kind) = ⊤
+IsWithin room Unlock = ⊤
+IsWithin room (Died torn) = ⊤
 
 -- and so does each of these events
 abbrev pub AreWithin : ℕ → List What → Type 0
