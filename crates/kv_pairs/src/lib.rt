@@ -10,7 +10,7 @@ mod maps;
 mod packed;
 
 pub use decode::{ItemsStop, decode_all, decode_from, decode_greedy};
-pub use growth::grown_size;
+pub use growth::{LARGEST_FILE, grown_size};
 pub use item::{Item, Items};
 pub use laws::{
     a_change_adds_its_item_at_most, a_map_that_fits_is_small, a_map_that_is_read_fits,

@@ -2,6 +2,7 @@
 use Rattle.std.specs.Prelude.{◌≡◌, ◌≢◌, ℕ, ◌+◌, ◌-◌, ◌<◌, ◌≤◌, Bool, true, false, List, [], ◌∷◌, length, replicate, Option, Some, None, not, ◌&&◌, ◌||◌, nat_lt, max, slice_index_or, slice_set, ⊤}
 use base.Stored.{coded_ℕ}
 use Rattle.lock_rules.specs.Locks.{Locks, MayTake, IsLeastAgainst}
+use Rattle.lock_rules.specs.declared.limits.TheConstants.{MOST_OPENERS}
 use Rattle.lock_rules.specs.declared.table.Tried.{Tried}
 use Rattle.lock_rules.specs.declared.table.Tried.TheVariants.{Taken, Busy}
 use Rattle.lock_rules.specs.declared.table.LockKind.{LockKind}
@@ -22,7 +23,7 @@ use Rattle.region_words.specs.declared.event.What.{What}
 use Rattle.region_words.specs.declared.event.What.TheVariants.{Store, Grow, Lock, Unlock, Died}
 use Rattle.region_words.specs.declared.event.Event.{Event}
 
--- A region in memory. The accounts are those of the openers 1 to 64, at their numbers; `failing` has the calls that are to
+-- A region in memory. The accounts are those of the openers, at their numbers, which begin with 1; `failing` has the calls that are to
 -- fail and the number of calls made.
 pub record Local : Type 0 where
   pub start : Region
@@ -39,7 +40,7 @@ account_of accounts who = slice_index_or accounts who no_account
 
 -- the places in the accounts of all openers
 abbrev pub kept_in : List Account → ℕ
-kept_in accounts = total (λ w. (account_of accounts w).kept) 64
+kept_in accounts = total (λ w. (account_of accounts w).kept) MOST_OPENERS
 
 -- the lock that an opener holds after these events
 abbrev pub lock_after : List Event → ℕ → Option LockKind

@@ -2,6 +2,7 @@
 use Rattle.std.specs.Prelude.{◌≡◌, ℕ, ◌%◌, ◌^◌, ◌<◌, ◌≤◌, false, List, [], ◌∷◌, Some, length, ⊤}
 use Rattle.kv_pairs.specs.Growth.{largest}
 use Rattle.lock_rules.specs.declared.table.LockKind.TheVariants.{Exclusive}
+use Rattle.lock_rules.specs.declared.limits.TheConstants.{MOST_OPENERS}
 use Rattle.region_words.specs.Region.{Region, IsAccepted, file_size}
 use Rattle.region_words.specs.Past.{region_after, region_step}
 use Rattle.region_words.specs.Rows.{Row}
@@ -54,7 +55,7 @@ AreWithin room (what ∷ rest) = IsWithin room what × AreWithin room rest
 pub record IsOwing (row : Row) (events : List What) (s : ShareState) : Type 0 where
   pub alive : s.ended ≡ false
   pub holds : s.holds ≡ Some Exclusive
-  pub maker : (1 ≤ s.who) × (s.who ≤ 64)
+  pub maker : (1 ≤ s.who) × (s.who ≤ MOST_OPENERS)
   pub places : length events ≤ s.reserved s.who
   pub room : AreWithin (s.room s.who) events
   pub told : OnTold s.told (Owes row events s)

@@ -3,6 +3,7 @@ use Rattle.std.specs.Prelude.{◌≡◌, ◌≢◌, ℕ, zero, suc, ◌+◌, ◌
 use Rattle.std.specs.FinSet as set
 use base.Stored.{Gv}
 use Rattle.lock_rules.specs.Locks.{Locks, holds_exclusive, MayTake, IsLeastAgainst}
+use Rattle.lock_rules.specs.declared.limits.TheConstants.{MOST_OPENERS}
 use Rattle.lock_rules.specs.declared.table.LockKind.{LockKind}
 use Rattle.lock_rules.specs.declared.table.LockKind.TheVariants.{Shared, Exclusive}
 use Rattle.lock_rules.specs.declared.table.Tried.{Tried}
@@ -19,13 +20,14 @@ use Rattle.region_words.specs.declared.event.TornWord.{TornWord}
 use Rattle.region_words.specs.declared.event.What.{What}
 use Rattle.region_words.specs.declared.event.What.TheVariants.{Lock, Unlock, Died}
 use Rattle.region_words.specs.declared.event.Event.{Event}
+use Rattle.region_words.specs.declared.places.TheConstants.{MOST_EVENTS}
 use Rattle.region_words.specs.declared.stops.ShareStop.{ShareStop}
 use Rattle.region_words.specs.declared.stops.ShareStop.TheVariants.{Failed, Turn, Memory, JournalFull}
 use Rattle.region_words.specs.declared.stops.TornStore.{TornStore}
 
 -- the events and the kept places that a journal has room for
 abbrev pub most_events : ℕ
-most_events = 4194304
+most_events = MOST_EVENTS
 
 -- how often this opener's calls failed, loaded, were answered Busy, and were answered Turn
 pub record Counts : Type 0 where
@@ -74,7 +76,7 @@ places_for admitted reserved past who =
 
 -- the places kept for all openers
 abbrev pub places_kept : (ℕ → Bool) → (ℕ → ℕ) → List Event → ℕ
-places_kept admitted reserved past = total (places_for admitted reserved past) 64
+places_kept admitted reserved past = total (places_for admitted reserved past) MOST_OPENERS
 
 -- what a share says of itself is what its history says
 pub record Agrees (s : ShareState) (h : History) : Type 0 where
@@ -86,7 +88,7 @@ pub record Agrees (s : ShareState) (h : History) : Type 0 where
 
 -- whatever a share tells: its opener's number, and that only who holds exclusive has places or room reserved
 pub record IsSound (s : ShareState) : Type 0 where
-  pub maker : (1 ≤ s.who) × (s.who ≤ 64)
+  pub maker : (1 ≤ s.who) × (s.who ≤ MOST_OPENERS)
   pub unreserved : s.holds ≢ Some Exclusive → (s.reserved s.who ≡ 0) × (s.room s.who ≡ 0)
   pub told : OnTold s.told (Agrees s)
 
