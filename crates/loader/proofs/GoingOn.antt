@@ -1,6 +1,6 @@
 -- What a partial load lacks, and what its bytes are in the region.
-use Rattle.std.proofs.Common.{◌≡◌, ◌≢◌, ℕ, ◌+◌, ◌-◌, ◌*◌, ◌/◌, ◌%◌, ◌<◌, ◌≤◌, Bool, true, false, List, [], ◌++◌, length, take, drop, refl, sym, ◌∙◌, ap, subst, arith, length-take, length-drop, length-append}
-use Rattle.std.specs.Prelude.{slice_index, nat_lt, not, ◌==◌, ◌||◌, ◌&&◌, All, None, if◌then◌else◌}
+use Rattle.std.proofs.Common.{◌≡◌, ℕ, ◌+◌, ◌-◌, ◌*◌, ◌/◌, ◌%◌, ◌<◌, ◌≤◌, Bool, true, false, List, [], ◌++◌, length, take, drop, refl, sym, ◌∙◌, ap, arith, length-take, length-append}
+use Rattle.std.specs.Prelude.{nat_lt, None, if◌then◌else◌}
 use Rattle.std.specs.Int.{to_le_bytes, w32}
 use Rattle.std.proofs.lemmas.Bool.Decides.{nat_tests}
 use Rattle.std.proofs.lemmas.List.{drop-drop, drop-take, take-take}
@@ -11,7 +11,7 @@ use Rattle.kv_pairs.specs.Mapped.{first_without_room}
 use Rattle.kv_pairs.specs.Reading.{units_at}
 use Rattle.kv_pairs.specs.declared.item.Item.{Item}
 use Rattle.meta_record.specs.Words.{word_at}
-use Rattle.region_words.specs.Region.{Region, IsRegion, file_size, payload_of, record_of}
+use Rattle.region_words.specs.Region.{Region, IsRegion, payload_of, record_of}
 use Rattle.region_words.specs.Images.{bytes_behind}
 use Rattle.region_words.specs.Standings.{tail_of, first_of, words_of}
 use Rattle.loader.specs.PartialLoads.{PartialLoad, Extends, GoesOnIn, HasLoadedPart, is_another, need_of, checksum_in, sequence_in, size_in, first_byte, added_size, bytes_from, bytes_added, next_part_word}
@@ -116,7 +116,7 @@ module _ (p : PartialLoad) (r : Region) (may : MayGoOn p) (has : HasLoadedPart p
       ∙ sym (drop-take b (z - b) (drop 4 r.data_bytes))
       ∙ ap (λ k. drop b (take k (drop 4 r.data_bytes))) (omega (arith, may.size))
 
-  record_size : z ≡ (record_of r).size
+  pub record_size : z ≡ (record_of r).size
   record_size = record-size-is p.words r may.made has.words
 
   pub behind_is : bytes_added p ≡ bytes_behind r n
@@ -126,10 +126,13 @@ module _ (p : PartialLoad) (r : Region) (may : MayGoOn p) (has : HasLoadedPart p
       ∙ ap (λ k. drop k (payload_of r z)) (omega arith)
       ∙ ap (λ k. drop n (payload_of r k)) record_size
 
-  pub tail_is : tail_of (bytes_from p) (added_size p) ≡ tail_of (payload_of r z) z
+  pub from_size : length (bytes_from p) ≡ z - first_byte p.kept
+  from_size = omega (arith, length-take (added_size p) p.added, all)
+
+  pub tail_is : tail_of (bytes_from p) (length (bytes_from p)) ≡ tail_of (payload_of r z) z
   tail_is =
       let b = first_byte p.kept in
-      ap (λ bytes. tail_of bytes (z - b)) from_is
+      (λ k. tail_of (from_is k) (from_size k))
       ∙ ap (λ bytes. first_of (words_of bytes)) (drop-drop (4 * ((z - b) / 4)) b (payload_of r z) ∙ ap (λ k. drop k (payload_of r z)) (omega (arith, may.size)))
 
   -- what was found to go on does so in the region

@@ -8,3 +8,4 @@ pub mod Finished
 pub mod RecordAnswered
 pub mod GoingOn
 pub mod PartTelling
+pub mod PartFinished

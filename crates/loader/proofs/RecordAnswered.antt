@@ -1,5 +1,5 @@
 -- What the first words of a partial load tell of their region.
-use Rattle.std.proofs.Common.{◌≡◌, ℕ, zero, suc, ◌+◌, ◌<◌, ◌≤◌, List, [], ◌∷◌, length, sym, ap, ◌∙◌, arith, get_or-take}
+use Rattle.std.proofs.Common.{◌≡◌, ℕ, zero, suc, ◌+◌, ◌<◌, ◌≤◌, length, sym, ap, ◌∙◌, arith, get_or-take}
 use Rattle.std.specs.Prelude.{slice_index, slice_set, slice_index_or}
 use Rattle.std.proofs.Math.Seq.{take-suc-set, take-suc}
 use Rattle.region_words.specs.Region.{Region, record_of}

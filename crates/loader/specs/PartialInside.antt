@@ -1,7 +1,7 @@
 -- A partial load by its fields.
-use Rattle.std.specs.Prelude.{◌≡◌, ℕ, ◌+◌, ◌*◌, ◌/◌, ◌%◌, ◌<◌, ◌≤◌, [], length}
-use Rattle.loader.specs.FirstWords.{HasWords, IsDataSize}
-use Rattle.loader.specs.PartialLoads.{PartialLoad, added_size, first_byte}
+use Rattle.std.specs.Prelude.{◌≡◌, ◌+◌, ◌%◌, ◌<◌, ◌≤◌, [], length}
+use Rattle.loader.specs.FirstWords.{IsDataSize}
+use Rattle.loader.specs.PartialLoads.{PartialLoad, added_size}
 use Rattle.loader.specs.declared.partial.PartialLoading.TheInside.{Inside}
 
 -- the load that its fields stand for

@@ -1,5 +1,5 @@
 -- A load that goes on from a kept image.
-use Rattle.std.specs.Prelude.{◌≡◌, ◌≢◌, ℕ, ◌+◌, ◌-◌, ◌*◌, ◌/◌, ◌%◌, ◌<◌, ◌≤◌, ⊤, Bool, true, false, List, [], ◌∷◌, ◌++◌, Option, Some, None, length, take, drop, replicate, slice_index, nat_lt, nat_le, not, ◌==◌, ◌||◌, ◌&&◌, if◌then◌else◌}
+use Rattle.std.specs.Prelude.{◌≡◌, ◌≢◌, ℕ, ◌+◌, ◌-◌, ◌*◌, ◌/◌, ◌%◌, ◌<◌, ◌≤◌, ⊤, Bool, true, false, List, [], ◌∷◌, ◌++◌, Some, None, length, take, drop, replicate, slice_index, nat_lt, not, ◌==◌, ◌||◌, ◌&&◌, if◌then◌else◌}
 use Rattle.crc_words.specs.Crc.{crc_from}
 use Rattle.expiring_map.specs.Map.{Map}
 use Rattle.kv_pairs.specs.Fits.{FitsIn}
@@ -9,7 +9,7 @@ use Rattle.kv_pairs.specs.declared.item.Item.{Item}
 use Rattle.meta_record.specs.Words.{word_at}
 use Rattle.meta_record.specs.declared.record.TheConstants.{WORD_CHECKSUM, WORD_SEQUENCE, WORD_SIZE}
 use Rattle.meta_record.specs.declared.shown.Shown.TheVariants.{Whole}
-use Rattle.region_words.specs.Region.{Region, IsAccepted, file_size, map_shown, record_of, shown}
+use Rattle.region_words.specs.Region.{Region, file_size, map_shown, record_of, shown}
 use Rattle.region_words.specs.Past.{region_after}
 use Rattle.region_words.specs.Images.{IsKept, bytes_behind}
 use Rattle.region_words.specs.Laws.{IsTrueRun}
@@ -172,13 +172,13 @@ pub record Extends (m : Map) (p : PartialLoad) : Type 0 where
   pub mapped : first_without_room p.kept.flag items ≡ None
   pub map : p.map ≡ with_items p.kept.flag m items
 
+-- what is known of the image to which the kept one goes on, whose payload is these bytes from the first that is loaded on
+abbrev pub standing_with : PartialLoad → List ℕ → Standing
+standing_with p bytes = record p.kept { size = size_in p; checksum = checksum_in p; tail = tail_of bytes (length bytes); file_size = p.file_size }
+
 -- the image to which the kept one goes on
 abbrev pub image_in : PartialLoad → Image
-image_in p =
-    record {
-      standing = record p.kept { size = size_in p; checksum = checksum_in p; tail = tail_of (bytes_from p) (added_size p); file_size = p.file_size };
-      map = p.map;
-    }
+image_in p = record { standing = standing_with p (bytes_from p); map = p.map }
 
 abbrev pub kept_image : Map → PartialLoad → Image
 kept_image m p = record { standing = p.kept; map = m }

@@ -1,5 +1,5 @@
 // A load that goes on from a kept image: it loads what was appended behind it, and nothing that is known.
-ghost use Rattle.std.specs.Prelude.{◌≡◌, ◌≢◌, ◌+◌, ◌%◌, ◌≤◌, [], List, None, Ok, false, length, IfOk, IfErr, IfSome, OnOk};
+ghost use Rattle.std.specs.Prelude.{◌≡◌, ◌≢◌, ◌+◌, ◌%◌, ◌^◌, ◌<◌, ◌≤◌, [], All, List, None, Ok, false, length, IfOk, IfErr, IfSome, OnOk};
 ghost use Rattle.crc_words.specs.Crc.{crc_from};
 ghost use Rattle.kv_pairs.specs.Found.{HaveKeys};
 ghost use Rattle.kv_pairs.specs.Mapped.{first_without_room, with_items};
@@ -11,7 +11,7 @@ ghost use Rattle.region_words.specs.Told.{OnTold};
 ghost use Rattle.region_words.specs.Share.{IsSound, Goes, Stops, loaded};
 ghost use Rattle.loader.specs.FirstWords.{IsDataSize};
 ghost use Rattle.loader.specs.PartialLoads.{Extends, GivesShown, GivesSound, GoesOnIn, HasLoadedPart, IsGoing, IsSamePart, IsSoundImage, StopsGoingOn};
-ghost use Rattle.loader.specs.PartialLoads.{added_size, bytes_added, bytes_from, checksum_in, going_on_from, image_in, loads_made, need_of, next_part, next_part_word};
+ghost use Rattle.loader.specs.PartialLoads.{added_size, bytes_added, bytes_from, checksum_in, going_on_from, image_in, loads_made, need_of, next_part, next_part_word, standing_with};
 
 use crate::first_words::tail_of;
 use crate::loaded::Image;
@@ -256,16 +256,25 @@ impl PartialLoading {
         ensures sound { GivesSound self result }
         ensures shows { GivesShown self result }
     {
-        let tail = tail_of(self.payload());
         Image {
-            standing: Standing {
-                size: self.words.size(),
-                checksum: self.words.checksum(),
-                tail,
-                file_size: self.file_size,
-                ..self.kept
-            },
+            standing: self.standing(self.payload()),
             map: self.map,
+        }
+    }
+
+    // What is known of the image to which the kept one goes on, by its payload from the first byte that is loaded on.
+    fn standing(&self, payload: &[u8]) -> Standing
+        requires { length payload.now < 2 ^ 32 }
+        ensures value { result ≡ standing_with self.now payload.now }
+        ensures bytes { All (λ b. b < 256) payload.now }
+        ensures checksum { result.checksum < 2 ^ 32 }
+    {
+        Standing {
+            size: self.words.size(),
+            checksum: self.words.checksum(),
+            tail: tail_of(payload),
+            file_size: self.file_size,
+            ..self.kept
         }
     }
 }

@@ -1,4 +1,4 @@
-use Rattle.std.proofs.Common.{◌≡◌, ◌∙◌, sym, ap, subst, Ok, refl, []}
+use Rattle.std.proofs.Common.{◌≡◌, ◌∙◌, ap, subst, Ok, refl, []}
 use Rattle.std.specs.Prelude.{IfOk, IfSome, Result, Err}
 use Rattle.crc_words.specs.Crc.{crc_from}
 use Rattle.expiring_map.specs.declared.Memory.{Memory}

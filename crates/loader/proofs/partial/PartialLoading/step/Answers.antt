@@ -1,5 +1,5 @@
-use Rattle.std.proofs.Common.{◌≡◌, ◌∙◌, ap, sym, subst}
-use Rattle.loader.specs.PartialLoads.{PartialLoad, Extends}
+use Rattle.std.proofs.Common.{◌∙◌, ap}
+use Rattle.loader.specs.PartialLoads.{PartialLoad}
 use Rattle.loader.proofs.PartTelling.{told_part, told_holds, told_fails}
 use Rattle.loader.proofs.partial.PartialLoading.step.Goals as goal
 

@@ -1,5 +1,4 @@
 use Rattle.std.proofs.Common.{◌≡◌, ◌++◌, ◌∙◌, sym, ap, subst}
-use Rattle.std.specs.Int.{to_le_bytes, w32}
 use Rattle.meta_record.specs.Words.{word_at}
 use Rattle.loader.specs.PartialLoads.{PartialLoad, HasLoadedPart, need_of, next_part, next_part_word, answer_to}
 use Rattle.loader.specs.PartialInside.{partial_load_of}
