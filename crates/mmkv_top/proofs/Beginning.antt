@@ -46,6 +46,7 @@ use Rattle.mmkv_top.specs.Parts.{going_on, Part, answers_in, asked_of, lives, op
 use Rattle.mmkv_top.specs.Play.{AreAnswered, CanTake}
 use Rattle.mmkv_top.specs.Played.{IsPartOf, IsTooFull, MetNoPlace, Stock, drawn, is_same, places_after, stocked}
 use Rattle.mmkv_top.specs.Progress.{AreEarlier, FollowsWork, FoundIs, FoundSaw, HasHalted, HasStored, IsAt, IsBounded, IsNobody, IsOpenTo, IsOpened, IsUnfull, IsUnopened, StopSaw, Takes, TakesOne}
+use Rattle.mmkv_top.proofs.Histories.{history_of}
 use Rattle.mmkv_top.proofs.Answering.{earlier_now, nothing_answered}
 use Rattle.mmkv_top.proofs.InTime.{begin_bounded, in_time}
 use Rattle.mmkv_top.proofs.NoPlaces.{no_place, opener_there, roomy}
@@ -89,6 +90,7 @@ quiet_taken stock left left' start parts line p q at k = (
     in_time = (at.in_time, in_time start grown q.world.openers k.openers (λ who is. k.unopened who (subst (λ n. IsNobody n who) k.count is)));
     reasoned = (at.reasoned, quiet_reasoned start (record { line = line; made = []; outcome = None }) parts refl);
     roomy = (at.roomy, subst (IsRoomy (length (strategies grown))) (k.past ∙ at.past) (roomy q.world k.sound (length (strategies grown)) k.open_to (sym k.count)));
+    histories = (at.histories, history_of start grown q.world k.sound (k.start_is ∙ at.start_is) (k.past ∙ at.past) (k.answers ∙ at.answers ∙ same_answers));
     answered = subst (AreAnswered start (past_of parts)) same_answers at.answered;
     within = subst (AreEndedBy (length (changes_of (past_of parts)))) same_answers at.within;
     count = k.count;

@@ -1,5 +1,5 @@
 -- What a dump ends with follows from what the shelf brought.
-use Rattle.std.proofs.Common.{◌≡◌, ℕ, Bool, true, false, cond, List, [], ◌∷◌, length, refl, sym, ap, ◌∙◌, inl, inr, subst}
+use Rattle.std.proofs.Common.{◌≡◌, ◌≢◌, ℕ, Bool, true, false, cond, List, [], ◌∷◌, length, refl, sym, ap, ◌∙◌, inl, inr, subst}
 use Rattle.std.specs.Prelude.{Result, Ok, Err, IsErrOf, MatchBool, nat_lt, ◌||◌, ◌==◌}
 use Rattle.std.specs.List.{list_any}
 use Rattle.meta_record.specs.declared.record.RecordFault.{RecordFault}
@@ -128,3 +128,7 @@ pub fault_rose : (statuses : List ℕ) (of_region : Region → Ending → Type 0
 fault_rose statuses of_region told e rose fine absent large none (inl h) is = absurd (among_not statuses e.status 5 (of_store_status statuses of_region told e fine absent large h) none is)
 fault_rose statuses of_region told e rose fine absent large none (inr (inl h)) is = h.1
 fault_rose statuses of_region told e rose fine absent large none (inr (inr h)) is = absurd (fault_not e 8 [] h refl is)
+
+-- where another status than the fault's is due, the shelf had none
+pub unfaulted : (of_region : Region → Ending → Type 0) (brought : Result Brought ShelfStop) (e : Ending) → IsEndingOf of_region brought e → e.status ≢ 5 → brought ≢ Err Failed
+unfaulted of_region brought e is other failed = other (ap (λ (e : Ending). e.status) (subst (λ b. IsEndingOf of_region b e) failed is))

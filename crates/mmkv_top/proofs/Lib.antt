@@ -14,6 +14,7 @@ mod Others
 mod Walked
 mod Beginning
 mod Opening
+mod Histories
 mod Judged
 mod Taking
 mod Ended

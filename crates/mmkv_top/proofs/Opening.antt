@@ -260,6 +260,7 @@ no_lines stock l w is past accounts listed =
       in_time = tt;
       reasoned = tt;
       roomy = tt;
+      histories = tt;
       answered = nothing_answered l.start;
       within = λ k d lt. absurd (omega (arith, lt));
       count = refl;

@@ -35,6 +35,7 @@ use Rattle.mmkv_top.specs.Parts.{Part, answers_in, asked_of, going_on, holds_of,
 use Rattle.mmkv_top.specs.Play.{AreAnswered, CanTake}
 use Rattle.mmkv_top.specs.Played.{MetFullJournal, MetNoImage, Stock, drawn, places_after, stocked}
 use Rattle.mmkv_top.specs.Progress.{AreEarlier, CameTo, FollowsWork, FoundIs, FoundSaw, HaltsBy, HasHalted, HasStored, IsAt, IsNobody, IsOpenTo, IsOpened, IsTextOf, IsUnopened, IsUnsaid, LeavesFewer, MetFull, Notes, SawNoImage, StopSaw, StoppedFull, StoppedIs, StoppedSaw, Stepped, Takes, TakesOne, Walks, seat_at}
+use Rattle.mmkv_top.proofs.Histories.{history_of}
 use Rattle.mmkv_top.proofs.Answering.{earlier_on}
 use Rattle.mmkv_top.proofs.InTime.{in_time, line_bounded}
 use Rattle.mmkv_top.proofs.LineEnds.{EndsLine, LineEnds, Outcomes, answers_join, is_step_line, line_ends, listed_answers, outcome_is, own_outcome, said_stopped}
@@ -177,6 +178,11 @@ module _ (stock left : Stock) (start : Region) (parts : List Part) (p q : PlaySt
     same_strategies : strategies (record { line = Some (StepLine who count); made = walks.made; outcome = ended.outcome } ∷ parts) ≡ strategies parts
     same_strategies = append-nil (strategies parts)
 
+    answers_now : q.world.answers ≡ answers_in (outcomes_of (record { line = Some (StepLine who count); made = walks.made; outcome = ended.outcome } ∷ parts))
+    answers_now =
+        walks.leaves.answers ∙ ap (λ l. l ++ answers_by walks.came) at.answers
+        ∙ ap (λ l. answers_in (outcomes_of parts) ++ l) (sym (listed_answers who walks.came ended.outcome ended.at)) ∙ joined
+
     pub steps_taken : TakesOne stock left start parts (Some (StepLine who count)) q
     steps_taken = (
       walks.made,
@@ -184,7 +190,7 @@ module _ (stock left : Stock) (start : Region) (parts : List Part) (p q : PlaySt
       record {
         start_is = st.start_is;
         past = st.past_is;
-        answers = walks.leaves.answers ∙ ap (λ l. l ++ answers_by walks.came) at.answers ∙ ap (λ l. answers_in (outcomes_of parts) ++ l) (sym (listed_answers who walks.came ended.outcome ended.at)) ∙ joined;
+        answers = answers_now;
         text = text ∙ ap (λ l. l ++ more) at.text ∙ ap (λ l. flat_map outcome_line (outcomes_of parts) ++ l) ended.text_is
             ∙ sym (flat_map-append outcome_line (outcomes_of parts) (listed ended.outcome));
         steady = st.steady;
@@ -206,6 +212,7 @@ module _ (stock left : Stock) (start : Region) (parts : List Part) (p q : PlaySt
           at.roomy,
           subst (λ n. IsRoomy n all) (sym (ap length same_strategies)) (subst (IsRoomy (length (strategies parts))) st.past_is (roomy q.world sound (length (strategies parts)) st.open_to (sym count_now))),
         );
+        histories = (at.histories, history_of start grown q.world sound st.start_is st.past_is answers_now);
         answered = subst (AreAnswered start all) joined ends.answered;
         within = subst (AreEndedBy (length (changes_of all))) joined ends.within;
         count = count_now ∙ sym (ap length same_strategies);

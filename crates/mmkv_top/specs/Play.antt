@@ -75,8 +75,17 @@ abbrev pub AreInTime : Region → List Part → Type 0
 AreInTime start [] = ⊤
 AreInTime start (p ∷ parts) = AreInTime start parts × IsInTime start (p ∷ parts)
 
--- A journal of these parts, which is lawful and in which the answers stand. Where checksums tell payloads apart, changes and answers are
--- one legal history.
+-- where checksums tell payloads apart, the changes and answers of these lines are one legal history,
+abbrev pub IsHistory : Region → List Part → Type 0
+IsHistory start parts =
+    IsAccepted start → Apart start (past_of parts) → Legal (base start) (changes_of (past_of parts)) (answers_in (outcomes_of parts))
+
+-- and so they are after each line, whatever comes behind it
+abbrev pub AreHistories : Region → List Part → Type 0
+AreHistories start [] = ⊤
+AreHistories start (p ∷ parts) = AreHistories start parts × IsHistory start (p ∷ parts)
+
+-- a journal of these parts, which is lawful and in which the answers stand; after each line changes and answers are one legal history
 pub record IsJournal (stock : Stock) (start : Region) (parts : List Part) : Type 0 where
   pub each : ArePlayed stock parts
   pub lawful : Lawful start (past_of parts)
@@ -84,7 +93,7 @@ pub record IsJournal (stock : Stock) (start : Region) (parts : List Part) : Type
   pub reasoned : AreReasoned start parts
   pub roomy : AreRoomy parts
   pub answers : AreAnswered start (past_of parts) (answers_in (outcomes_of parts))
-  pub legal : IsAccepted start → Apart start (past_of parts) → Legal (base start) (changes_of (past_of parts)) (answers_in (outcomes_of parts))
+  pub histories : AreHistories start parts
 
 -- all lines are played, and the text is that of their outcomes, of their changes, and of the region left
 pub record IsPlayed (stock : Stock) (start : Region) (texts : List (List ℕ)) (e : Ending) : Type 0 where

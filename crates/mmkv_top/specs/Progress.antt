@@ -47,7 +47,7 @@ use Rattle.mmkv_top.specs.Ending.{ending}
 use Rattle.mmkv_top.specs.declared.ending.Ending.{Ending}
 use Rattle.mmkv_top.specs.Parts.{Part, lines_of, past_of, outcomes_of, answers_in, listed, strategies, holds_of, asked_of, locks_among, stores_among, Running, running, going_on}
 use Rattle.mmkv_top.specs.Played.{Stock, stocked, drawn, ArePlayed, AreReasoned, AreRoomy, MeetsFullJournal, MeetsNoImage, AsksFor, IsTooFull, IsAnsweredBy, WasRefused, reason_said}
-use Rattle.mmkv_top.specs.Play.{AreAnswered, AreInTime, IsWithin, AreLines, CanTake, IsFirstRefused, IsHalted, IsRefusedIn, not_yet}
+use Rattle.mmkv_top.specs.Play.{AreAnswered, AreHistories, AreInTime, IsWithin, AreLines, CanTake, IsFirstRefused, IsHalted, IsRefusedIn, not_yet}
 
 -- the opener runs this call
 pub record Follows (c : Call) (r : Running) : Type 0 where
@@ -272,6 +272,7 @@ pub record IsAt (stock left : Stock) (start : Region) (parts : List Part) (p : P
   pub in_time : AreInTime start parts
   pub reasoned : AreReasoned start parts
   pub roomy : AreRoomy parts
+  pub histories : AreHistories start parts
   pub answered : AreAnswered start (past_of parts) (answers_in (outcomes_of parts))
   pub within : AreEndedBy (length (changes_of (past_of parts))) (answers_in (outcomes_of parts))
   pub count : length p.world.openers ≡ length (strategies parts)

@@ -1,5 +1,5 @@
 // The command `dump`.
-ghost use Rattle.std.specs.Prelude.{◌≡◌, ℕ, ◌≤◌, ◌∷◌, List, IfOk, length};
+ghost use Rattle.std.specs.Prelude.{◌≡◌, ◌≢◌, ℕ, ◌≤◌, ◌∷◌, List, IfOk, length};
 ghost use Rattle.region_words.specs.Outside.{Rose};
 ghost use Rattle.region_words.specs.Region.{region_of, shown};
 ghost use Rattle.region_words.specs.Stores.{IsId};
@@ -22,7 +22,7 @@ pub(crate) fn dump<D: Shelf>(alloc: Global, shelf: &mut D, id: &[u8]) -> Ending
     ensures same { (other : List ℕ) → D.stores shelf.new other ≡ D.stores shelf.old other }
     ensures statuses { IsAmong (5 ∷ 8 ∷ dump_statuses) result.status }
     ensures fault { result.status ≡ 5 → Rose (D.faults shelf.old) (D.faults shelf.new) }
-    ensures clean { result.status ≡ 0 → D.faults shelf.new ≡ D.faults shelf.old }
+    ensures clean { result.status ≢ 5 → result.status ≢ 8 → D.faults shelf.new ≡ D.faults shelf.old }
 {
     let brought = shelf.bring(id);
     match dump_brought(alloc, brought) {

@@ -1,5 +1,5 @@
 // How a run ends: with a status, and a text that it writes.
-ghost use Rattle.std.specs.Prelude.{◌≡◌, IfOk, [], string_bytes};
+ghost use Rattle.std.specs.Prelude.{◌≡◌, ◌≢◌};
 ghost use Rattle.region_words.specs.Outside.{Rose};
 ghost use Rattle.mmkv_top.specs.Ending.{ending, IsDelivered};
 
@@ -55,7 +55,9 @@ impl Ending {
 
 /// Writes the text and answers the status, or 4 where the sink fails.
 pub(crate) fn deliver<K: Sink>(ending: &Ending, out: &mut K) -> Status
-    ensures { IsDelivered (K.written out.old) (K.written out.new) (Rose (K.faults out.old) (K.faults out.new)) result ending.now }
+    ensures status { result.0 ≢ 4 → result.0 ≡ ending.now.status }
+    ensures clean { result.0 ≢ 4 → K.faults out.new ≡ K.faults out.old }
+    ensures delivered { IsDelivered (K.written out.old) (K.written out.new) (Rose (K.faults out.old) (K.faults out.new)) result ending.now }
 {
     match write_all(out, ending.text.as_slice()) {
         Ok(()) => Status(ending.status),

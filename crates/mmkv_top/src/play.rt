@@ -1,5 +1,5 @@
 // The command `play`.
-ghost use Rattle.std.specs.Prelude.{◌≡◌, ◌⊎◌, ℕ, ◌≤◌, ◌++◌, ◌∷◌, [], List, IfOk, OnOk, flat_map, length, replicate, take, false, true, codes, decimal};
+ghost use Rattle.std.specs.Prelude.{◌≡◌, ◌≢◌, ◌⊎◌, ℕ, ◌≤◌, ◌++◌, ◌∷◌, [], List, IfOk, OnOk, flat_map, length, replicate, take, false, true, codes, decimal};
 ghost use Rattle.region_words.specs.Outside.{Rose};
 ghost use Rattle.region_words.specs.Region.{IsAccepted};
 ghost use Rattle.region_words.specs.Past.{region_after, changes_of};
@@ -45,7 +45,8 @@ pub(crate) fn play<D: Shelf, S: Source>(
     ensures statuses { IsAmong (5 ∷ 8 ∷ play_statuses) result.status }
     ensures fault { result.status ≡ 5 → Rose (D.faults shelf.old) (D.faults shelf.new) }
     ensures read_fault { result.status ≡ 3 → Rose (S.faults input.old) (S.faults input.new) }
-    ensures clean { result.status ≡ 0 → D.faults shelf.new ≡ D.faults shelf.old }
+    ensures clean { result.status ≢ 5 → result.status ≢ 8 → D.faults shelf.new ≡ D.faults shelf.old }
+    ensures clean_input { result.status ≢ 3 → result.status ≢ 8 → S.faults input.new ≡ S.faults input.old }
 {
     let brought = shelf.bring(id);
     match play_brought(alloc, brought, input, handlers) {
@@ -62,8 +63,9 @@ fn play_brought<S: Source>(
 ) -> Result<Ending, Memory>
     requires data { IfOk brought (λ b. length b.body ≤ LARGEST_DATA) }
     requires meta { IfOk brought (λ b. length b.meta ≤ LARGEST_META) }
-    ensures { IfOk result (λ e. IsEndingOf
+    ensures due { IfOk result (λ e. IsEndingOf
         (IsPlayOf (stock_of handlers.old) (S.left input.old) (S.left input.new) (Rose (S.faults input.old) (S.faults input.new))) brought e) }
+    ensures clean_input { IfOk result (λ e. e.status ≢ 3 → S.faults input.new ≡ S.faults input.old) }
 {
     match brought {
         Ok(brought) => play_files(alloc, brought, input, handlers),
@@ -79,8 +81,9 @@ fn play_files<S: Source>(
 ) -> Result<Ending, Memory>
     requires data { length brought.body ≤ LARGEST_DATA }
     requires meta { length brought.meta ≤ LARGEST_META }
-    ensures { IfOk result (IsPlayOf (stock_of handlers.old) (S.left input.old) (S.left input.new)
+    ensures due { IfOk result (IsPlayOf (stock_of handlers.old) (S.left input.old) (S.left input.new)
         (Rose (S.faults input.old) (S.faults input.new)) (region_in brought.body brought.meta)) }
+    ensures clean_input { IfOk result (λ e. e.status ≢ 3 → S.faults input.new ≡ S.faults input.old) }
 {
     let Brought { body, meta } = brought;
     match LocalRegion::new(alloc, body.into_vec(), meta.into_vec()) {
@@ -99,8 +102,9 @@ fn play_region<S: Source>(
     requires past { region.past ≡ [] }
     requires new { region.accounts ≡ replicate 65 no_account }
     requires steady { region.failing.listed ≡ [] }
-    ensures { IfOk result (IsPlayOf (stock_of handlers.old) (S.left input.old) (S.left input.new)
+    ensures due { IfOk result (IsPlayOf (stock_of handlers.old) (S.left input.old) (S.left input.new)
         (Rose (S.faults input.old) (S.faults input.new)) region.start) }
+    ensures clean_input { IfOk result (λ e. e.status ≢ 3 → S.faults input.new ≡ S.faults input.old) }
 {
     region.journal();
     match shown(region.data_bytes(), region.meta_bytes()) {
@@ -123,8 +127,9 @@ fn play_input<S: Source>(
 ) -> Result<Ending, Memory>
     requires sound { IsSound world.old }
     requires at { IsAt (stock_of handlers.old) (stock_of handlers.old) world.old.region.start [] (play_state world.old []) }
-    ensures { IfOk result (IsInputPlay (stock_of handlers.old) world.old.region.start (S.left input.old) (S.left input.new)
+    ensures due { IfOk result (IsInputPlay (stock_of handlers.old) world.old.region.start (S.left input.old) (S.left input.new)
         (Rose (S.faults input.old) (S.faults input.new))) }
+    ensures clean_input { IfOk result (λ e. e.status ≢ 3 → S.faults input.new ≡ S.faults input.old) }
 {
     match read_script(alloc, input) {
         Ok(script) => play_script(alloc, world, handlers, &script),

@@ -42,9 +42,11 @@ pub fn run<D: Shelf, S: Source, K: Sink>(
     ensures write_fault { result.0 ≡ 4 → Rose (K.faults out.old) (K.faults out.new) }
     ensures region_fault { result.0 ≡ 5 → Rose (D.faults shelf.old) (D.faults shelf.new) }
 
-    // What stays, and what can't have come before a success.
+    // What stays, and which faults can't have come where another status is answered.
     ensures same { (id : List ℕ) → D.stores shelf.new id ≡ D.stores shelf.old id }
-    ensures clean { result.0 ≡ 0 → D.faults shelf.new ≡ D.faults shelf.old }
+    ensures clean { result.0 ≢ 4 → result.0 ≢ 5 → result.0 ≢ 8 → D.faults shelf.new ≡ D.faults shelf.old }
+    ensures clean_input { result.0 ≢ 3 → result.0 ≢ 4 → result.0 ≢ 8 → S.faults input.new ≡ S.faults input.old }
+    ensures clean_output { result.0 ≢ 4 → K.faults out.new ≡ K.faults out.old }
 {
     deliver(&plan(alloc, words, shelf, input, &mut stock), out)
 }
@@ -68,7 +70,8 @@ fn plan<D: Shelf, S: Source>(
     ensures no_write { result.status ≢ 4 }
     ensures region_fault { result.status ≡ 5 → Rose (D.faults shelf.old) (D.faults shelf.new) }
     ensures same { (id : List ℕ) → D.stores shelf.new id ≡ D.stores shelf.old id }
-    ensures clean { result.status ≡ 0 → D.faults shelf.new ≡ D.faults shelf.old }
+    ensures clean { result.status ≢ 5 → result.status ≢ 8 → D.faults shelf.new ≡ D.faults shelf.old }
+    ensures clean_input { result.status ≢ 3 → result.status ≢ 8 → S.faults input.new ≡ S.faults input.old }
 {
     match command_of(words) {
         Some(Command::Dump { id }) => dump(alloc, shelf, id),

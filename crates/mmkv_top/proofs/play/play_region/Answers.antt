@@ -22,8 +22,8 @@ new-world-requires-clause-accepted g c =
     ap (λ x. region_of x c.meta_bytes.result.now) c.data_bytes.ensures ∙ ap (λ x. region_of (region_after r.start r.past).data_bytes x) c.meta_bytes.ensures ∙ ap (region_after r.start) c.requires.past in
     accepted_shown r.start c.in-Ok-Whole.field-0 (sym (ap shown_if_accepted same) ∙ sym c.shown.ensures ∙ c.in-Ok-Whole.is)
 
-pub returns-in-Ok-Whole : goal.returns-in-Ok-Whole
-returns-in-Ok-Whole g c =
+pub returns-in-Ok-Whole-clause-due : goal.returns-in-Ok-Whole-clause-due
+returns-in-Ok-Whole-clause-due g c =
     let r = c.args.region in
     let stock = stock_of c.args.handlers.now in
     let left = g.S.Source.left c.args.input.now in
@@ -35,4 +35,4 @@ returns-in-Ok-Whole g c =
     sym (ap shown_if_accepted same) ∙ sym c.shown.ensures ∙ c.in-Ok-Whole.is ∙ ap (λ x. Ok x) c.in-Ok-Whole.field-0-is in
     IfOk-weaker c.play_input-ending.result (IsInputPlay stock c.new-world.result.region.start left now rose) (IsPlayOf stock left now rose r.start)
     (λ e h. whole_shown stock left now rose r.start c.in-Ok-Whole.field-0-0 e shows
-    (subst (λ x. IsInputPlay stock x left now rose e) (ap (λ (w : WorldState). w.region.start) c.new-world.ensures.new) h)) c.play_input-ending.ensures
+    (subst (λ x. IsInputPlay stock x left now rose e) (ap (λ (w : WorldState). w.region.start) c.new-world.ensures.new) h)) c.play_input-ending.ensures.due

@@ -1,0 +1,24 @@
+-- What a world answered so far, as the lines that were played tell it.
+use Rattle.std.proofs.Common.{◌≡◌, List, subst}
+use Rattle.change_log.specs.History.{Legal}
+use Rattle.change_log.specs.declared.call.Answer.{Answer}
+use Rattle.region_words.specs.Apart.{Apart}
+use Rattle.region_words.specs.Past.{changes_of}
+use Rattle.region_words.specs.Region.{Region, base}
+use Rattle.region_words.specs.declared.event.Event.{Event}
+use Rattle.world.specs.World.{IsSound, WorldState}
+use Rattle.world.proofs.Together.{world_is_legal}
+use Rattle.mmkv_top.specs.Parts.{Part, past_of, outcomes_of, answers_in}
+use Rattle.mmkv_top.specs.Play.{IsHistory}
+
+-- what holds of the world holds of the start, the events and the answers that are its own
+pub told : (P : Region → List Event → List Answer → Type 0) (w : WorldState) (start : Region) (past : List Event) (answers : List Answer) → w.region.start ≡ start → w.region.past ≡ past → w.answers ≡ answers →
+    P w.region.start w.region.past w.answers → P start past answers
+told P w start past answers s p a h = subst (λ x. P x past answers) s (subst (λ x. P w.region.start x answers) p (subst (λ x. P w.region.start w.region.past x) a h))
+
+-- after the lines that are played, changes and answers are one legal history
+pub history_of : (start : Region) (parts : List Part) (w : WorldState) → IsSound w → w.region.start ≡ start → w.region.past ≡ past_of parts → w.answers ≡ answers_in (outcomes_of parts) →
+    IsHistory start parts
+history_of start parts w sound start_is past answers accepted apart =
+    told (λ r past answers. Apart r past → Legal (base r) (changes_of past) answers) w start (past_of parts) (answers_in (outcomes_of parts)) start_is past answers
+    (λ tells. world_is_legal w.region w.openers w.answers sound tells) apart
