@@ -100,6 +100,8 @@ def broken_links(page: str) -> Iterator[str]:
 def is_there(page: str, name: str) -> bool:
     """A file of that name, with `*` for any part and NAME for any crate."""
     pattern = name.replace('NAME', '*')
+    if '/' not in name and glob.glob(f'{TOP}/crates/*/*/{pattern}'):
+        return True
     return any(glob.glob(os.path.join(TOP, base, pattern)) for base in ('', os.path.dirname(page), 'crates'))
 
 
