@@ -10,7 +10,6 @@ import base64
 import collections
 import gzip
 import os
-import shutil
 import subprocess
 import sys
 import tempfile

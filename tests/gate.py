@@ -9,7 +9,8 @@
 `rt ci` prints no times, and the lines of a proof all at once when it ends, so the lines alone tell only when it did. Therefore this script
 also looks twice a second which provers run below the gate, and writes down when each began and ended: lines with an @ in the log. A crate's
 proof and its tests run side by side with those of other crates, and edits fill what these leave free: the minutes of proofs and tests are
-from begin to end, those of edits are the sum over all tries.
+from begin to end, those of edits are the sum over all tries. The table is one for docs/DEVELOPING.md; functions are counted once for the
+proof and once for the tests.
 
 For the same reason no time of a single function can be had from the gate. `rt check` prints a line as it ends with each, so with one job
 the time since the line before is that function's. A function that an earlier check has proved has no line: to see all, take the crate's
@@ -27,7 +28,7 @@ import tempfile
 import threading
 import time
 from dataclasses import dataclass, field
-from typing import Dict, List, Optional, Set, TextIO, Tuple
+from typing import Dict, List, Optional, TextIO, Tuple
 
 TOP = os.path.dirname(os.path.dirname(os.path.abspath(__file__)))
 STAMPED = re.compile(r'^ *(\d+\.\d) (.*)$')
@@ -197,15 +198,15 @@ class Reading:
 def told(reading: Reading) -> List[str]:
     lines = []
     if reading.crates:
-        lines.append(f'{"crate":14} {"proof":>7} {"tests":>7} {"edits":>7}   minutes; functions in proof and tests; edits')
+        lines += ['| Crate | Proof | Tests | Edits | |', '|---|---|---|---|---|']
         for name, cost in reading.crates.items():
-            minutes = ' '.join(f'{cost.minutes(kind):>7}' for kind in ('proof', 'tests', 'edits'))
-            said = f'{cost.said["functions"]:5} functions, {cost.said["edits"]} edits'
+            minutes = ' | '.join(cost.minutes(kind) for kind in ('proof', 'tests', 'edits'))
+            said = f'{cost.said["functions"]} functions, {cost.said["edits"]} edits'
             said += ', kept from an earlier run' if cost.said['kept'] else ''
             said += f', {cost.said["edits not refused"]} edits NOT REFUSED' if cost.said['edits not refused'] else ''
             said += ', NOT PROVED' if cost.said['failed'] else ''
             ends = ', '.join(f'{kind} ended at {at / 60:.1f}' for kind, at in cost.ended.items())
-            lines.append(f'{name:14} {minutes}   {said}{"; " + ends if ends else ""}')
+            lines.append(f'| `{name}` | {minutes} | {said}{"; " + ends if ends else ""} |')
     if reading.last is None:
         lines.append('the log has no times: it was not kept by this script')
     else:
