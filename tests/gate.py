@@ -205,7 +205,8 @@ def told(reading: Reading) -> List[str]:
             said += ', kept from an earlier run' if cost.said['kept'] else ''
             said += f', {cost.said["edits not refused"]} edits NOT REFUSED' if cost.said['edits not refused'] else ''
             said += ', NOT PROVED' if cost.said['failed'] else ''
-            ends = ', '.join(f'{kind} ended at {at / 60:.1f}' for kind, at in cost.ended.items())
+            # (a log without the lines of begins and ends tells at least these)
+            ends = ', '.join(f'{kind} ended at {at / 60:.1f}' for kind, at in cost.ended.items() if not cost.spans[kind])
             lines.append(f'| `{name}` | {minutes} | {said}{"; " + ends if ends else ""} |')
     if reading.last is None:
         lines.append('the log has no times: it was not kept by this script')
