@@ -1,17 +1,18 @@
 #!/usr/bin/env python3
-"""A reference model of `mmkv DIR play ID`, for several openers of which none dies: a second computation of what that command prints.
+"""A reference model of the program: a second computation of what `dump` and `play` print, for several openers of which none dies.
 
-    examples/reference/play.py DIR ID < SCRIPT
+    tests/reference/play.py DIR dump ID
+    tests/reference/play.py DIR play ID < SCRIPT
 
-It was written from the rules of the format and of the script language, not from the program, and shares no code with it. It prints what
-the program must print and ends with the status that the program must end with (the table in README.md). It doesn't model faults of reading
-and writing beyond what Python reports, nor want of memory.
+The words are the program's own. The model was written from the rules of the format and of the script language, not from the program, and
+shares no code with it. It prints what the program must print and ends with the status that the program must end with (the table in
+README.md). It doesn't model faults of reading and writing beyond what Python reports, nor want of memory.
 
 What it takes on trust is Python's own: `zlib.crc32`, dictionaries, sorting of bytes.
 
 The parts, in this order: spellings and payloads; the region (two files in memory, with the journal's count of events and the changes);
 what a region shows; the calls of an opener, each a generator that yields one operation on the region after another; script lines; printed
-text; the command.
+text; the commands.
 """
 from __future__ import annotations
 
@@ -835,19 +836,42 @@ def numbered_lines(script: bytes) -> Iterator[Optional[bytes]]:
         yield last if len(last) <= LONGEST_LINE else None
 
 
-def play(data: bytes, meta: bytes, script: bytes) -> Tuple[List[str], Region]:
-    """What the command prints for a store of these two files, and the region that is left."""
-    if len(data) > LARGEST_DATA:
-        raise Ended(14, f'size {len(data)}')
-    if len(meta) > LARGEST_META:
-        raise Ended(14, f'size {len(meta)}')
+def checked_region(data: bytes, meta: bytes) -> Region:
+    """The region of two files, where their lengths and the record are accepted."""
+    for file, limit in [(data, LARGEST_DATA), (meta, LARGEST_META)]:
+        if len(file) > limit:
+            raise Ended(14, f'size {len(file)}')
     region = Region(data, meta)
     check_record(region)
+    return region
+
+
+def dump(data: bytes, meta: bytes) -> List[str]:
+    """What `dump` prints for a store of these two files."""
+    region = checked_region(data, meta)
+    now = shown(region)
+    if now.text.startswith('damaged'):
+        raise Ended(6, now.text)
+    return region_text(region)
+
+
+def play(data: bytes, meta: bytes, script: Callable[[], bytes]) -> List[str]:
+    """What `play` prints for a store of these two files. The script is read once the store is known to show a whole image."""
+    region = checked_region(data, meta)
     if not shown(region).whole:
         raise Ended(17, 'not yet')
     player = Player(region)
-    player.play(script)
-    return player.lines + changes_text(region.changes) + region_text(region), region
+    player.play(script())
+    return player.lines + changes_text(region.changes) + region_text(region)
+
+
+def ended(lines: Callable[[], List[str]]) -> Tuple[int, bytes]:
+    """The status and the text with which a command ends."""
+    try:
+        status, text = 0, lines()
+    except Ended as end:
+        status, text = end.status, [end.line]
+    return status, ''.join(line + '\n' for line in text).encode()
 
 
 def id_is_valid(store: bytes) -> bool:
@@ -858,38 +882,43 @@ def id_is_valid(store: bytes) -> bool:
     return 1 <= len(store) <= 200 and not store.endswith(b'.crc') and not set(store) & set(b'\\/:*?"<>|')
 
 
-def bring(folder: bytes, store: bytes) -> Tuple[bytes, bytes]:
-    """The store's two files. A missing meta file counts as an empty one."""
-    path = os.path.join(folder, store)
+def read_file(path: bytes, limit: int) -> Optional[bytes]:
+    """The bytes of a file, None where it is missing. Its length is looked at first."""
     try:
         with open(path, 'rb') as file:
-            data = file.read()
+            size = os.fstat(file.fileno()).st_size
+            if size > limit:
+                raise Ended(14, f'size {size}')
+            return file.read()
     except FileNotFoundError:
-        raise Ended(13, 'no store') from None
-    try:
-        with open(path + b'.crc', 'rb') as file:
-            meta = file.read()
-    except FileNotFoundError:
-        meta = b''
-    return data, meta
+        return None
+    except OSError:
+        raise Ended(5, 'region fault') from None
+
+
+def bring(folder: bytes, store: bytes) -> Tuple[bytes, bytes]:
+    """The store's two files, the data file first. A missing meta file counts as an empty one."""
+    # (a name is put behind the directory's word and a stroke, so that an empty word names the root)
+    path = folder + b'/' + store
+    data = read_file(path, LARGEST_DATA)
+    if data is None:
+        raise Ended(13, 'no store')
+    return data, read_file(path + b'.crc', LARGEST_META) or b''
 
 
 def command(words: List[bytes]) -> List[str]:
-    if len(words) != 2 or not id_is_valid(words[1]):
+    if len(words) != 3 or words[1] not in (b'dump', b'play') or not id_is_valid(words[2]):
         raise Ended(2, 'usage')
-    try:
-        data, meta = bring(words[0], words[1])
-    except OSError:
-        raise Ended(5, 'region fault') from None
-    return play(data, meta, sys.stdin.buffer.read())[0]
+    data, meta = bring(words[0], words[2])
+    if words[1] == b'dump':
+        return dump(data, meta)
+    return play(data, meta, sys.stdin.buffer.read)
 
 
 def main() -> int:
-    try:
-        lines, status = command([os.fsencode(word) for word in sys.argv[1:]]), 0
-    except Ended as end:
-        lines, status = [end.line], end.status
-    sys.stdout.write(''.join(line + '\n' for line in lines))
+    words = [os.fsencode(word) for word in sys.argv[1:]]
+    status, text = ended(lambda: command(words))
+    sys.stdout.buffer.write(text)
     return status
 
 
