@@ -1,19 +1,15 @@
 #!/usr/bin/env python3
-"""Times `dump` beside a plain C++ program on stores of 1,000, 10,000 and 100,000 small pairs, in one run.
+"""Times `dump` beside a plain C program on stores of 1,000, 100,000 and 1,000,000 small pairs, in one run. See README.md.
 
-By hand, after `rt ci`:  python3 bench/dump.py
-What each program takes on a store without pairs is taken off. It says for each step in size how much more the time of `dump` grows than the plain program's does (at most a fifth more
-is wanted), and how many times the payload the peak memory of `dump` is (below 40 is wanted)."""
+What each program takes on a store without pairs is taken off."""
 import os
 import random
 import struct
-import subprocess
-import sys
-import tempfile
 import zlib
 
-top = os.path.dirname(os.path.dirname(os.path.abspath(__file__)))
-program = os.path.join(top, 'crates/mmkv_main/out/mmkv_main')
+from common import bench, head, tell
+
+counts = [(1_000, 15), (100_000, 7), (1_000_000, 3)]
 
 
 def length(n):
@@ -25,6 +21,7 @@ def length(n):
 
 
 def store(folder, name, count):
+    """Makes a store of so many pairs in no order, and gives the size of its payload."""
     draw = random.Random(count)
     keys = [b'key%06d' % i for i in range(count)]
     draw.shuffle(keys)
@@ -37,49 +34,26 @@ def store(folder, name, count):
     body = struct.pack('<I', len(payload)) + payload
     meta = struct.pack('<III', zlib.crc32(payload), 3, 1) + bytes(16)
     meta += struct.pack('<III', len(payload), 4, zlib.crc32(payload[:4]))
-    open(os.path.join(folder, name), 'wb').write(body.ljust(4096 * pages, b'\0'))
-    open(os.path.join(folder, name + '.crc'), 'wb').write(meta.ljust(4096, b'\0'))
+    with open(os.path.join(folder, name), 'wb') as file:
+        file.write(body.ljust(4096 * pages, b'\0'))
+    with open(os.path.join(folder, name + '.crc'), 'wb') as file:
+        file.write(meta.ljust(4096, b'\0'))
     return len(payload)
 
 
-def run(measure, words):
-    """Seconds of the processor, the peak memory in bytes, and the output."""
-    done = subprocess.run([measure] + words, capture_output=True)
-    if done.returncode:
-        sys.exit(f'{words} answered {done.returncode}')
-    seconds, peak = done.stderr.split()
-    return float(seconds), int(peak) * 1024, done.stdout
-
-
-def best(measure, words):
-    runs = [run(measure, words) for _ in range(15)]
-    return min(r[0] for r in runs), max(r[1] for r in runs), runs[0][2]
-
-
 def main():
-    if not os.path.exists(program):
-        sys.exit('first: ./mmkv examples/stores dump settings')
-    with tempfile.TemporaryDirectory() as folder:
-        plain = os.path.join(folder, 'plain')
-        measure = os.path.join(folder, 'measure')
-        subprocess.run(['g++', '-std=c++17', '-O2', '-o', plain, os.path.join(top, 'bench/plain_dump.cc')], check=True)
-        subprocess.run(['gcc', '-O2', '-o', measure, os.path.join(top, 'bench/measure.c')], check=True)
-        store(folder, 's', 0)
-        at_rest, room, _ = best(measure, [program, folder, 'dump', 's'])
-        plain_at_rest, _, _ = best(measure, [plain, folder, 's'])
+    with bench('mmkv_main', 'plain_dump.c') as both:
+        words = [both.folder, 'dump', 's'], [both.folder, 's']
+        store(both.folder, 's', 0)
+        bare = both.beside(*words, 15)
+        head()
         before = None
-        for count in [1000, 10000, 100000]:
-            payload = store(folder, 's', count)
-            ours, peak, text = best(measure, [program, folder, 'dump', 's'])
-            theirs, _, same = best(measure, [plain, folder, 's'])
-            if text != same:
-                sys.exit('the two programs print different lines')
-            ours, theirs, peak = ours - at_rest, theirs - plain_at_rest, peak - room
-            line = f'{count:7} pairs: dump {ours:.3f} s, plain {theirs:.3f} s, ratio {ours / theirs:.1f}, memory {peak / payload:.1f} times the payload'
-            if before:
-                line += f', growth {ours / before[0]:.1f} beside {theirs / before[1]:.1f}: {(ours / before[0]) / (theirs / before[1]):.2f}'
-            print(line, flush=True)
-            before = ours, theirs
+        for count, runs in counts:
+            payload = store(both.folder, 's', count)
+            now = both.beside(*words, runs).less(bare)
+            tell(f'dump of {count:,} pairs, a payload of {payload / 1e6:.1f} MB', now, before)
+            before = now
+        tell('dump of a store without pairs', bare)
 
 
 if __name__ == '__main__':

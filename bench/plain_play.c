@@ -3,19 +3,7 @@
 // arrays of bytes, and each change is made in them: an append, and a write-back before it where the item doesn't fit. The map is an
 // array of pairs in byte order of keys. It keeps the changes for printing, but no list of events, and works out the counts of a call
 // from its sizes, while ours makes each step and counts. A call is made whole at its step line, which must be long enough.
-#include <stdbool.h>
-#include <stdint.h>
-#include <stdio.h>
-#include <stdlib.h>
-#include <string.h>
-
-enum { PAGE = 4096, LARGEST = 1 << 26 };
-enum { CHECKSUM = 0, VERSION = 4, SEQUENCE = 8, SIZE = 28, LAST_SIZE = 32, LAST_CHECKSUM = 36, FLAGS = 104 };
-
-struct Bytes {
-  uint8_t *at;
-  size_t size, room;
-};
+#include "plain.h"
 
 struct Pair {
   struct Bytes key, value;
@@ -27,35 +15,11 @@ struct Change {
   struct Pair pair;
 };
 
-static struct Bytes body, meta, text;
+static struct Bytes body, meta;
 static struct Pair *pairs;
 static size_t pair_count, pair_room;
 static struct Change *changes;
 static size_t change_count, change_room;
-static uint32_t table[256];
-
-static void *memory(void *old, size_t size) {
-  void *at = realloc(old, size ? size : 1);
-  if (!at) exit(8);
-  return at;
-}
-
-static void make_room(struct Bytes *bytes, size_t more) {
-  if (bytes->size + more <= bytes->room) return;
-  bytes->room = 2 * bytes->room + more;
-  bytes->at = memory(bytes->at, bytes->room);
-}
-
-static void push(struct Bytes *bytes, const void *from, size_t size) {
-  make_room(bytes, size);
-  memcpy(bytes->at + bytes->size, from, size);
-  bytes->size += size;
-}
-
-static void push_byte(struct Bytes *bytes, uint8_t byte) {
-  make_room(bytes, 1);
-  bytes->at[bytes->size++] = byte;
-}
 
 static struct Bytes copy(struct Bytes from) {
   struct Bytes to = {0};
@@ -63,77 +27,11 @@ static struct Bytes copy(struct Bytes from) {
   return to;
 }
 
-static struct Bytes read_all(FILE *file) {
-  struct Bytes all = {0};
-  if (!file) exit(13);
-  for (size_t got = 1; got; all.size += got) {
-    make_room(&all, 1 << 16);
-    got = fread(all.at + all.size, 1, 1 << 16, file);
-  }
-  return all;
-}
+// The map
 
-static struct Bytes file_of(const char *folder, const char *name, const char *end) {
-  struct Bytes path = {0};
-  push(&path, folder, strlen(folder));
-  push_byte(&path, '/');
-  push(&path, name, strlen(name));
-  push(&path, end, strlen(end) + 1);
-  FILE *file = fopen((const char *)path.at, "rb");
-  struct Bytes all = read_all(file);
-  fclose(file);
-  return all;
-}
-
-// Words and checksums
-
-static uint32_t word_at(const uint8_t *at) { return at[0] | at[1] << 8 | at[2] << 16 | (uint32_t)at[3] << 24; }
-
-static void store(uint8_t *at, uint32_t word) {
-  for (int i = 0; i < 4; i++) at[i] = (uint8_t)(word >> 8 * i);
-}
-
-static void fill_table(void) {
-  for (uint32_t b = 0; b < 256; b++) {
-    table[b] = b;
-    for (int k = 0; k < 8; k++) table[b] = table[b] & 1 ? table[b] >> 1 ^ 0xedb88320u : table[b] >> 1;
-  }
-}
-
-static uint32_t crc(uint32_t before, const uint8_t *at, size_t size) {
-  uint32_t r = ~before;
-  for (size_t i = 0; i < size; i++) r = table[(r ^ at[i]) & 255] ^ r >> 8;
-  return ~r;
-}
-
-// Items and the map
-
-static void push_length(struct Bytes *bytes, uint64_t n) {
-  for (; n >= 128; n >>= 7) push_byte(bytes, (uint8_t)(n | 128));
-  push_byte(bytes, (uint8_t)n);
-}
-
-static void push_item(struct Bytes *bytes, const struct Pair *pair) {
-  push_length(bytes, pair->key.size);
-  push(bytes, pair->key.at, pair->key.size);
-  push_length(bytes, pair->value.size);
-  push(bytes, pair->value.at, pair->value.size);
-}
-
-static size_t length(const uint8_t **at) {
-  size_t n = 0;
-  for (int shift = 0;; shift += 7) {
-    uint8_t byte = *(*at)++;
-    n |= (size_t)(byte & 127) << shift;
-    if (byte < 128) return n;
-  }
-}
-
-static struct Bytes field(const uint8_t **at) {
-  size_t size = length(at);
-  struct Bytes read = {(uint8_t *)*at, size, size};
-  *at += size;
-  return read;
+static void push_pair(struct Bytes *bytes, const struct Pair *pair) {
+  push_field(bytes, pair->key.at, pair->key.size);
+  push_field(bytes, pair->value.at, pair->value.size);
 }
 
 static int compare(const struct Bytes *a, const struct Bytes *b) {
@@ -170,17 +68,21 @@ static void set(const struct Pair *pair) {
   pair_count++;
 }
 
+static struct Bytes part(const uint8_t *at, size_t size) { return (struct Bytes){(uint8_t *)at, size, size}; }
+
 static void load(void) {
   size_t size = word_at(meta.at + SIZE);
   if (word_at(meta.at + VERSION) != 3 || word_at(meta.at + FLAGS) || 4 + size > body.size) exit(17);
-  if (crc(0, body.at + 4, size) != word_at(meta.at + CHECKSUM)) exit(17);
-  const uint8_t *at = body.at + 4, *end = at + size;
-  if (size) length(&at);
-  while (at < end) {
-    struct Pair pair = {.key = field(&at)};
-    pair.value = field(&at);
-    set(&pair);
+  if (checksum(0, body.at + 4, size) != word_at(meta.at + CHECKSUM)) exit(17);
+  struct Items items = {0};
+  decode(body.at + 4, size, &items);
+  map_of(&items);
+  pairs = memory(pairs, (pair_room = pair_count = items.count) * sizeof *pairs);
+  for (size_t i = 0; i < pair_count; i++) {
+    const struct Item *item = &items.at[i];
+    pairs[i] = (struct Pair){copy(part(item->key, item->key_size)), copy(part(item->value, item->value_size))};
   }
+  free(items.at);
 }
 
 // Changes of the files
@@ -212,24 +114,22 @@ struct Done {
 
 static void write_back(size_t need, uint32_t now, struct Done *done) {
   struct Bytes packed = {0};
-  push(&packed, "\xff\xff\xff\x07", 4);
-  for (size_t i = 0; i < pair_count; i++) push_item(&packed, &pairs[i]);
+  push(&packed, heading, sizeof heading);
+  for (size_t i = 0; i < pair_count; i++) push_pair(&packed, &pairs[i]);
   size_t wanted = grown_size(packed.size, need);
   if (4 + packed.size + need > LARGEST || word_at(meta.at + SEQUENCE) == UINT32_MAX) exit(1);
   if (wanted > body.size) {
-    body.at = memory(body.at, wanted);
-    memset(body.at + body.size, 0, wanted - body.size);
-    body.size = body.room = wanted;
+    grow(&body, wanted);
     done->growths = 1;
   }
-  uint32_t checksum = crc(0, packed.at, packed.size);
-  store(meta.at + SEQUENCE, word_at(meta.at + SEQUENCE) + 1);
+  uint32_t sum = checksum(0, packed.at, packed.size);
+  store_word(meta.at + SEQUENCE, word_at(meta.at + SEQUENCE) + 1);
   done->stores += 6 + write_words(0, &packed);
-  store(body.at, (uint32_t)packed.size);
-  store(meta.at + CHECKSUM, checksum);
-  store(meta.at + SIZE, (uint32_t)packed.size);
-  store(meta.at + LAST_SIZE, (uint32_t)packed.size);
-  store(meta.at + LAST_CHECKSUM, checksum);
+  store_word(body.at, (uint32_t)packed.size);
+  store_word(meta.at + CHECKSUM, sum);
+  store_word(meta.at + SIZE, (uint32_t)packed.size);
+  store_word(meta.at + LAST_SIZE, (uint32_t)packed.size);
+  store_word(meta.at + LAST_CHECKSUM, sum);
   note((struct Change){.pack = true, .now = now});
   free(packed.at);
 }
@@ -238,16 +138,16 @@ static struct Done put(const struct Pair *pair, uint32_t now) {
   static struct Bytes item;
   struct Done done = {0};
   item.size = 0;
-  push_item(&item, pair);
+  push_pair(&item, pair);
   size_t size = word_at(meta.at + SIZE);
   if (!size || 4 + size + item.size > body.size) {
     write_back(item.size, now, &done);
     size = word_at(meta.at + SIZE);
   }
   done.stores += 3 + write_words(size, &item);
-  store(body.at, (uint32_t)(size + item.size));
-  store(meta.at + CHECKSUM, crc(word_at(meta.at + CHECKSUM), item.at, item.size));
-  store(meta.at + SIZE, (uint32_t)(size + item.size));
+  store_word(body.at, (uint32_t)(size + item.size));
+  store_word(meta.at + CHECKSUM, checksum(word_at(meta.at + CHECKSUM), item.at, item.size));
+  store_word(meta.at + SIZE, (uint32_t)(size + item.size));
   note((struct Change){.pair = {copy(pair->key), copy(pair->value)}});
   set(pair);
   return done;
@@ -255,62 +155,23 @@ static struct Done put(const struct Pair *pair, uint32_t now) {
 
 // Printed text
 
-static void say(const char *words) { push(&text, words, strlen(words)); }
-
-static void say_number(const char *before, uint64_t n) {
-  char digits[20];
-  size_t at = sizeof digits;
-  say(before);
-  do digits[--at] = (char)('0' + n % 10);
-  while (n /= 10);
-  push(&text, digits + at, sizeof digits - at);
-}
-
-static void say_hex(const char *before, const struct Bytes *bytes) {
-  say(before);
-  make_room(&text, 2 * bytes->size);
-  for (size_t i = 0; i < bytes->size; i++) {
-    text.at[text.size++] = (uint8_t)"0123456789abcdef"[bytes->at[i] >> 4];
-    text.at[text.size++] = (uint8_t)"0123456789abcdef"[bytes->at[i] & 15];
-  }
-}
-
-static void say_word(const char *before, uint32_t word) {
-  uint8_t bytes[4] = {(uint8_t)(word >> 24), (uint8_t)(word >> 16), (uint8_t)(word >> 8), (uint8_t)word};
-  say_hex(before, &(struct Bytes){bytes, 4, 4});
-}
-
 static void say_changes(void) {
   say_number("changes ", change_count);
   for (size_t i = 0; i < change_count; i++) {
     say_number("\nchange ", i);
     if (changes[i].pack) say_number(" 1 pack ", changes[i].now);
     else {
-      say_hex(" 1 put ", &changes[i].pair.key);
-      say_hex(" ", &changes[i].pair.value);
+      say_hex(" 1 put ", changes[i].pair.key.at, changes[i].pair.key.size);
+      say_hex(" ", changes[i].pair.value.at, changes[i].pair.value.size);
       say(" 0");
     }
   }
   say("\n");
 }
 
-static void say_region(void) {
-  say_number("region data ", body.size);
-  say_number(" version ", word_at(meta.at + VERSION));
-  say_number(" sequence ", word_at(meta.at + SEQUENCE));
-  say_number(" flags ", word_at(meta.at + FLAGS));
-  say_number("\nsizes header ", word_at(body.at));
-  say_number(" record ", word_at(meta.at + SIZE));
-  say_number(" last ", word_at(meta.at + LAST_SIZE));
-  say_word("\nchecksums record ", word_at(meta.at + CHECKSUM));
-  say_word(" last ", word_at(meta.at + LAST_CHECKSUM));
-  say_number("\nshown whole ", word_at(meta.at + SIZE));
+static void say_pairs(void) {
   say_number("\npairs ", pair_count);
-  for (size_t i = 0; i < pair_count; i++) {
-    say_hex("\npair ", &pairs[i].key);
-    say_hex(" ", &pairs[i].value);
-    say(" 0");
-  }
+  for (size_t i = 0; i < pair_count; i++) say_pair(pairs[i].key.at, pairs[i].key.size, pairs[i].value.at, pairs[i].value.size);
   say("\n");
 }
 
@@ -384,9 +245,9 @@ static void step(uint32_t steps, bool *warm, struct Call *call) {
   } else found = find(&call->pair.key);
   // loads, stores, growths, a lock and its unlock, and the reserve of a put
   if (steps < loads + done.stores + done.growths + 2 * locks + call->put) exit(1);
-  say_hex(call->put ? "answer 1 put " : "answer 1 get ", &call->pair.key);
+  say_hex(call->put ? "answer 1 put " : "answer 1 get ", call->pair.key.at, call->pair.key.size);
   if (call->put) {
-    say_hex(" ", &call->pair.value);
+    say_hex(" ", call->pair.value.at, call->pair.value.size);
     say(" 0");
   }
   say_number(" now ", call->now);
@@ -396,7 +257,7 @@ static void step(uint32_t steps, bool *warm, struct Call *call) {
   say_number(" loads ", loads);
   say_number(" stores ", done.stores);
   say_number(" locks ", locks);
-  if (found) say_hex(" reply value ", &found->value);
+  if (found) say_hex(" reply value ", found->value.at, found->value.size);
   else say(call->put ? " reply done" : " reply none");
   say("\n");
   call->runs = false;
@@ -426,15 +287,15 @@ static void play(char *script) {
 
 int main(int argc, char **argv) {
   if (argc != 3) return 2;
-  fill_table();
   body = file_of(argv[1], argv[2], "");
   meta = file_of(argv[1], argv[2], ".crc");
   if (body.size % PAGE || !body.size || body.size > LARGEST || meta.size % PAGE || !meta.size) return 14;
-  struct Bytes script = read_all(stdin);
+  struct Bytes script = read_all(STDIN_FILENO);
   push_byte(&script, 0);
   play((char *)script.at);
   if (!pairs) load();
   say_changes();
-  say_region();
-  return fwrite(text.at, 1, text.size, stdout) == text.size ? 0 : 4;
+  say_region(&body, &meta);
+  say_pairs();
+  return write_text();
 }

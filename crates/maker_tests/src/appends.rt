@@ -1,21 +1,20 @@
 // An append, store by store, alone and at a region in memory.
 ghost use Rattle.std.specs.Prelude.{◌≡◌, [], ◌∷◌, None, false, codes, IfOk, IfSome, OnOk};
 ghost use Rattle.change_log.specs.declared.change.Act.TheVariants.{Put};
-ghost use Rattle.region_words.specs.Stores.{filled_up};
 ghost use Rattle.region_words.specs.Rows.{Row};
 ghost use Rattle.region_words.specs.Owing.{IsOwing};
 ghost use Rattle.region_words.specs.Local.{seat_state};
 ghost use Rattle.appender.specs.Appends.{appending};
 
+use crate::seen::seen_in;
 use appender::Appending;
 use change_log::{Act, Change};
 use expiring_map::{Bytes, Memory};
 use lock_rules::{LockKind, Tried};
-use region_words::{
-    Event, LocalRegion, LocalSeat, Mark, Next, Share, ShareStop, Side, Standing, Stored, What,
-};
-use std::alloc::{AllocError, Global};
+use region_words::{LocalRegion, LocalSeat, Next, Share, ShareStop, Side, Standing, Stored};
+use std::alloc::Global;
 use std::test::Fail;
+use test_support::{BODY, META, opened};
 
 // What is known of a store of the pair k, abc. The checksum is that of zlib.
 const KNOWN: Standing = Standing {
@@ -111,31 +110,12 @@ fn a_removal_ends_with_a_length_of_0(rt: HostRuntime) -> Result<(), Fail> {
     Ok(())
 }
 
-// A region of these files whose opener 1 may make events.
-fn opened(alloc: Global, body: &[u8], meta: &[u8]) -> Option<LocalSeat>
-    ensures alive { IfSome result (λ s. (seat_state s).ended ≡ false) }
-    ensures free { IfSome result (λ s. (seat_state s).holds ≡ None) }
-    ensures maker { IfSome result (λ s. s.who ≡ 1) }
-    ensures past { IfSome result (λ s. s.region.past ≡ []) }
-    ensures start { IfSome result (λ s. s.region.start ≡ record { data_bytes = filled_up body.now; meta_bytes = filled_up meta.now }) }
-{
-    let body = body.to_vec(alloc).ok()?;
-    let meta = meta.to_vec(alloc).ok()?;
-    let mut region = LocalRegion::new(alloc, body, meta).ok()?;
-    region.admit(1).ok()?;
-    Some(region.seat(1))
-}
-
 // An append to the store of the pair k, abc, whose lock opener 1 holds.
 fn appending(alloc: Global) -> Option<(Appending, LocalSeat)>
     ensures { IfSome result (λ r. (row : Row) × IsOwing row r.0.events (seat_state r.1)) }
 {
     let maker = started(alloc).ok()?;
-    let mut seat = opened(
-        alloc,
-        b"\x0b\0\0\0\xff\xff\xff\x07\x01k\x04\x03abc",
-        b"\xd3\x95\x65\x3a\x03\0\0\0\x01\0\0\0\0\0\0\0\0\0\0\0\0\0\0\0\0\0\0\0\x0b\0\0\0\x04\0\0\0\xd1\x85\x99\x4c",
-    )?;
+    let mut seat = opened(alloc, &BODY, &META, &[])?;
     match seat.try_lock(LockKind::Exclusive) {
         Ok(Tried::Taken) => {}
         _ => return None,
@@ -166,36 +146,6 @@ fn standing_of(maker: &Appending) -> Option<Standing> {
         return None;
     }
     Some(maker.standing())
-}
-
-// A store: its maker, its place, its value, and whether it commits a change.
-type Seen = (u32, Side, u32, u32, bool);
-
-fn store_of(event: &Event) -> Option<Seen> {
-    match &event.what {
-        What::Store {
-            side,
-            word,
-            value,
-            mark,
-        } => {
-            let marked = match mark {
-                Mark::Plain => false,
-                Mark::Commit(_) => true,
-            };
-            Some((event.who, *side, *word, *value, marked))
-        }
-        _ => None,
-    }
-}
-
-// The events of a region, in their order.
-fn seen_in(alloc: Global, region: &LocalRegion) -> Result<Vec<Option<Seen>>, AllocError> {
-    let mut seen = Vec::new(alloc);
-    for event in region.journal() {
-        seen.push(store_of(event))?;
-    }
-    Ok(seen)
 }
 
 #[test]
@@ -262,8 +212,6 @@ fn puts_this(act: &Act) -> bool {
 
 #[test]
 fn a_death_leaves_the_stores_before_it(rt: HostRuntime) {
-    let before =
-        b"\xd3\x95\x65\x3a\x03\0\0\0\x01\0\0\0\0\0\0\0\0\0\0\0\0\0\0\0\0\0\0\0\x0b\0\0\0\x04\0\0\0\xd1\x85\x99\x4c";
     let marked =
         b"\x6c\x2d\x5b\x68\x03\0\0\0\x01\0\0\0\0\0\0\0\0\0\0\0\0\0\0\0\0\0\0\0\x0b\0\0\0\x04\0\0\0\xd1\x85\x99\x4c";
     let sized =
@@ -272,22 +220,22 @@ fn a_death_leaves_the_stores_before_it(rt: HostRuntime) {
         (
             0,
             b"\x0b\0\0\0\xff\xff\xff\x07\x01k\x04\x03abc\0\0\0\0\0\0\0\0\0",
-            before,
+            &META,
         ),
         (
             1,
             b"\x0b\0\0\0\xff\xff\xff\x07\x01k\x04\x03abc\x01\0\0\0\0\0\0\0\0",
-            before,
+            &META,
         ),
         (
             2,
             b"\x0b\0\0\0\xff\xff\xff\x07\x01k\x04\x03abc\x01k\x02\x01d\0\0\0\0",
-            before,
+            &META,
         ),
         (
             3,
             b"\x10\0\0\0\xff\xff\xff\x07\x01k\x04\x03abc\x01k\x02\x01d\0\0\0\0",
-            before,
+            &META,
         ),
         (
             4,

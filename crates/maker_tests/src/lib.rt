@@ -7,4 +7,6 @@ mod appends;
 #[cfg(test)]
 mod loads;
 #[cfg(test)]
+mod seen;
+#[cfg(test)]
 mod write_backs;

@@ -8,13 +8,12 @@ use meta_record::{
     Damage, RecordFault, Shown, WORD_CHECKSUM, WORD_FLAGS_LOW, WORD_LAST_CHECKSUM, WORD_LAST_SIZE,
     WORD_SEQUENCE, WORD_SIZE, WORD_VERSION, store_word,
 };
-use region_words::{LocalRegion, LocalSeat, Share, ShareStop, Standing};
+use region_words::{LocalSeat, Share, ShareStop, Standing};
 use std::alloc::Global;
 use std::test::Fail;
+use test_support::{BODY, opened};
 
-// A header of 11, four bytes of a placeholder, and a pair. The checksums are those of zlib.
-const BODY: [u8; 15] = *b"\x0b\0\0\0\xff\xff\xff\x07\x01k\x04\x03abc";
-
+// The checksums of the store's payload and of its first four bytes, from zlib.
 const CRC: u32 = 0x3a65_95d3;
 
 const CRC_OF_4: u32 = 0x4c99_85d1;
@@ -51,12 +50,7 @@ fn holder(
     ensures alive { IfSome result (λ s. (seat_state s).ended ≡ false) }
     ensures held { IfSome result (λ s. (seat_state s).holds ≢ None) }
 {
-    let body = body.to_vec(alloc).ok()?;
-    let meta = meta.to_vec(alloc).ok()?;
-    let mut region = LocalRegion::new(alloc, body, meta).ok()?;
-    region.fail_at(fails.to_vec(alloc).ok()?);
-    region.admit(1).ok()?;
-    let mut seat = region.seat(1);
+    let mut seat = opened(alloc, body, meta, fails)?;
     match seat.try_lock(kind) {
         Ok(Tried::Taken) => Some(seat),
         _ => None,

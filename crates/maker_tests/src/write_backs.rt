@@ -3,20 +3,19 @@ ghost use Rattle.std.specs.Prelude.{◌≡◌, ◌≤◌, ◌^◌, [], None, fal
 ghost use Rattle.std.specs.FinMap as fin;
 ghost use Rattle.kv_pairs.specs.Growth.{IsFileSize};
 ghost use Rattle.change_log.specs.declared.change.Act.TheVariants.{Pack};
-ghost use Rattle.region_words.specs.Stores.{filled_up};
 ghost use Rattle.region_words.specs.Rows.{Row};
 ghost use Rattle.region_words.specs.Owing.{IsOwing};
 ghost use Rattle.region_words.specs.Local.{seat_state};
 ghost use Rattle.write_back.specs.Rewrites.{rewriting};
 
+use crate::seen::seen_in;
 use change_log::{Act, Change};
 use expiring_map::{Bytes, ExpiringMap, Memory, Pair};
 use lock_rules::{LockKind, Tried};
-use region_words::{
-    Event, LocalRegion, LocalSeat, Mark, Next, Share, ShareStop, Side, Standing, Stored, What,
-};
-use std::alloc::{AllocError, Global};
+use region_words::{LocalRegion, LocalSeat, Next, Share, ShareStop, Side, Standing, Stored};
+use std::alloc::Global;
 use std::test::Fail;
+use test_support::opened;
 use write_back::{RewriteStop, Rewriting};
 
 // What is known of a store in which nothing was stored yet.
@@ -143,27 +142,12 @@ fn a_file_that_is_too_small_grows_first(rt: HostRuntime) -> Result<(), Fail> {
     Ok(())
 }
 
-// A region of these files whose opener 1 may make events.
-fn opened(alloc: Global, body: &[u8], meta: &[u8]) -> Option<LocalSeat>
-    ensures alive { IfSome result (λ s. (seat_state s).ended ≡ false) }
-    ensures free { IfSome result (λ s. (seat_state s).holds ≡ None) }
-    ensures maker { IfSome result (λ s. s.who ≡ 1) }
-    ensures past { IfSome result (λ s. s.region.past ≡ []) }
-    ensures start { IfSome result (λ s. s.region.start ≡ record { data_bytes = filled_up body.now; meta_bytes = filled_up meta.now }) }
-{
-    let body = body.to_vec(alloc).ok()?;
-    let meta = meta.to_vec(alloc).ok()?;
-    let mut region = LocalRegion::new(alloc, body, meta).ok()?;
-    region.admit(1).ok()?;
-    Some(region.seat(1))
-}
-
 // A write-back to a fresh store whose lock opener 1 holds.
 fn rewriting(alloc: Global) -> Option<(Rewriting, LocalSeat)>
     ensures { IfSome result (λ r. (row : Row) × IsOwing row r.0.events (seat_state r.1)) }
 {
     let maker = packing(alloc).ok()?;
-    let mut seat = opened(alloc, b"", b"")?;
+    let mut seat = opened(alloc, b"", b"", &[])?;
     match seat.try_lock(LockKind::Exclusive) {
         Ok(Tried::Taken) => {}
         _ => return None,
@@ -195,36 +179,6 @@ fn standing_of(maker: &Rewriting) -> Option<Standing> {
         return None;
     }
     Some(maker.standing())
-}
-
-// A store: its maker, its place, its value, and whether it commits a change.
-type Seen = (u32, Side, u32, u32, bool);
-
-fn store_of(event: &Event) -> Option<Seen> {
-    match &event.what {
-        What::Store {
-            side,
-            word,
-            value,
-            mark,
-        } => {
-            let marked = match mark {
-                Mark::Plain => false,
-                Mark::Commit(_) => true,
-            };
-            Some((event.who, *side, *word, *value, marked))
-        }
-        _ => None,
-    }
-}
-
-// The events of a region, in their order.
-fn seen_in(alloc: Global, region: &LocalRegion) -> Result<Vec<Option<Seen>>, AllocError> {
-    let mut seen = Vec::new(alloc);
-    for event in region.journal() {
-        seen.push(store_of(event))?;
-    }
-    Ok(seen)
 }
 
 #[test]

@@ -52,7 +52,7 @@ impl<'a, R: Files + AllocGlobal> DirShelf<'a, R> {
     fn open(&self, id: &[u8], ending: &[u8]) -> Result<io::Result<R::File>, AllocError> {
         let path = self.path_of(id, ending)?;
         match std::str::from_utf8(&path) {
-            Ok(path) => Ok(fs::open(self.rt, path)),
+            Ok(path) => Ok(open_regular(self.rt, path)),
             Err(_) => Ok(Err(Error::from(ErrorKind::InvalidData))),
         }
     }
@@ -102,6 +102,9 @@ impl<'a, R: Files + AllocGlobal> DirShelf<'a, R> {
         let Ok(metadata) = file.metadata() else {
             return Err(self.fault());
         };
+        if !metadata.is_file() {
+            return Err(self.fault());
+        }
         let size = metadata.len();
         if size > limit as u64 {
             return Err(ShelfStop::SizeRefused(size));
@@ -125,6 +128,16 @@ impl<'a, R: Files + AllocGlobal> DirShelf<'a, R> {
             Err(_) => Err(self.fault()),
         }
     }
+}
+
+// Opens a regular file, behind links or not. Anything else is refused before it is opened, since opening a pipe waits
+// for its writer and opening a device may set it going. Only what another process puts in the file's place between the
+// two calls is opened all the same: it may wait so long, but what is then open is looked at again before it is read.
+fn open_regular<R: Files>(files: &R, path: &str) -> io::Result<R::File> {
+    if !fs::metadata(files, path)?.is_file() {
+        return Err(Error::from(ErrorKind::InvalidInput));
+    }
+    fs::open(files, path)
 }
 
 impl<R: Files + AllocGlobal> Shelf for DirShelf<'_, R> {
@@ -155,7 +168,8 @@ impl<R: Files + AllocGlobal> Shelf for DirShelf<'_, R> {
 mod tests {
     use super::*;
     use region_words::is_id;
-    use std::alloc::Allocator;
+    use std::alloc::{Allocator, Global};
+    use std::cell::Cell;
     use std::fs::{Metadata, OpenOptions};
     use std::io::{Empty, Seek, SeekFrom, Write};
     use std::process::Abort;
@@ -164,15 +178,45 @@ mod tests {
         Err(Error::from(ErrorKind::Unsupported))
     }
 
-    // An open file: how long it says that it is, if it does, and the bytes that a read finds.
+    // An open file: what it says of itself, if it does, and the bytes that a read finds behind so many interruptions.
     #[derive(Clone, Copy)]
     struct Sheet {
-        says: Option<u64>,
+        says: Says,
         left: &'static [u8],
+        interrupts: u32,
+    }
+
+    #[derive(Clone, Copy)]
+    enum Says {
+        Length(u64),
+        Folder,
+        Nothing,
+    }
+
+    impl Sheet {
+        fn of(says: Says) -> Sheet {
+            Sheet {
+                says,
+                left: b"abc",
+                interrupts: 0,
+            }
+        }
+    }
+
+    fn metadata_of(says: Says) -> io::Result<Metadata> {
+        match says {
+            Says::Length(len) => Ok(Metadata::of_file(len)),
+            Says::Folder => Ok(Metadata::of_dir()),
+            Says::Nothing => unsupported(),
+        }
     }
 
     impl Read for Sheet {
         fn read(&mut self, buf: &mut [u8]) -> io::Result<usize> {
+            if let Some(left) = self.interrupts.checked_sub(1) {
+                self.interrupts = left;
+                return Err(Error::from(ErrorKind::Interrupted));
+            }
             self.left.read(buf)
         }
     }
@@ -195,10 +239,7 @@ mod tests {
 
     impl OpenFile for Sheet {
         fn metadata(&self) -> io::Result<Metadata> {
-            match self.says {
-                Some(len) => Ok(Metadata::of_file(len)),
-                None => unsupported(),
-            }
+            metadata_of(self.says)
         }
 
         fn set_len(&self, _size: u64) -> io::Result<()> {
@@ -216,21 +257,47 @@ mod tests {
 
     fn whole(bytes: &'static [u8]) -> io::Result<Sheet> {
         Ok(Sheet {
-            says: Some(bytes.len() as u64),
+            says: Says::Length(bytes.len() as u64),
             left: bytes,
+            interrupts: 0,
         })
     }
 
     fn sheet_of(len: u64) -> io::Result<Sheet> {
-        Ok(Sheet {
-            says: Some(len),
-            left: b"abc",
-        })
+        Ok(Sheet::of(Says::Length(len)))
     }
 
-    // A disk with a few files, which are read alone.
+    // A disk with a few files, which are read alone. It counts how often one was opened.
     #[derive(Drop)]
-    struct Disk;
+    struct Disk {
+        opened: Cell<u32>,
+    }
+
+    impl Disk {
+        fn file(&self, path: &str) -> io::Result<Sheet> {
+            match path {
+                "home/both" => whole(b"\x01body"),
+                "home/both.crc" => whole(b"meta"),
+                "home/bare" => whole(b"bare"),
+                "home/lone.crc" => whole(b"lone"),
+                "home/empty" | "home/most" | "home/wide" | "home/odd" => whole(b""),
+                "home/most.crc" => whole(&[0; 65_536]),
+                "home/wide.crc" => sheet_of(65_537),
+                "home/long" => sheet_of(67_108_865),
+                "home/short" => sheet_of(4),
+                "home/silent" | "home/mute" => Ok(Sheet::of(Says::Nothing)),
+                "home/folder" | "home/odd.crc" | "home/swapped" => Ok(Sheet::of(Says::Folder)),
+                "home/signals" => Ok(Sheet {
+                    interrupts: 9,
+                    ..Sheet::of(Says::Length(3))
+                }),
+                "home/shut" => Err(Error::from(ErrorKind::PermissionDenied)),
+                "home/half" => whole(b"half"),
+                "home/half.crc" => Err(Error::from(ErrorKind::PermissionDenied)),
+                _ => Err(Error::from(ErrorKind::NotFound)),
+            }
+        }
+    }
 
     impl Files for Disk {
         type File = Sheet;
@@ -239,33 +306,19 @@ mod tests {
 
         fn open_file(&self, how: &OpenOptions, path: &str) -> io::Result<Sheet> {
             how.check()?;
-            match path {
-                "home/both" => whole(b"\x01body"),
-                "home/both.crc" => whole(b"meta"),
-                "home/bare" => whole(b"bare"),
-                "home/lone.crc" => whole(b"lone"),
-                "home/empty" | "home/most" | "home/wide" => whole(b""),
-                "home/most.crc" => whole(&[0; 65_536]),
-                "home/wide.crc" => sheet_of(65_537),
-                "home/long" => sheet_of(67_108_865),
-                "home/short" => sheet_of(4),
-                "home/silent" => Ok(Sheet {
-                    says: None,
-                    left: b"abc",
-                }),
-                "home/shut" => Err(Error::from(ErrorKind::PermissionDenied)),
-                "home/half" => whole(b"half"),
-                "home/half.crc" => Err(Error::from(ErrorKind::PermissionDenied)),
-                _ => Err(Error::from(ErrorKind::NotFound)),
-            }
+            self.opened.set(self.opened.get().saturating_add(1));
+            self.file(path)
         }
 
         fn open_dir(&self, _path: &str) -> io::Result<Empty> {
             unsupported()
         }
 
-        fn metadata(&self, _path: &str) -> io::Result<Metadata> {
-            unsupported()
+        fn metadata(&self, path: &str) -> io::Result<Metadata> {
+            match path {
+                "home/swapped" | "home/silent" => Ok(Metadata::of_file(3)),
+                _ => metadata_of(self.file(path)?.says),
+            }
         }
 
         fn symlink_metadata(&self, _path: &str) -> io::Result<Metadata> {
@@ -297,6 +350,11 @@ mod tests {
         }
     }
 
+    fn disk_of(alloc: Global) -> (Disk, Global) {
+        let opened = Cell::new(0);
+        (Disk { opened }, alloc)
+    }
+
     // What a shelf answers that is asked twice for a store, and the faults that it has counted by then.
     fn asked_twice<R: Files + AllocGlobal>(
         rt: &impl Abort,
@@ -312,12 +370,13 @@ mod tests {
 
     #[test]
     fn both_files_of_a_store_are_brought_byte_for_byte(rt: HostRuntime) {
-        let disk = (Disk, rt.alloc());
-        let rows: [(&[u8], &[u8], &[u8]); 4] = [
+        let disk = disk_of(rt.alloc());
+        let rows: [(&[u8], &[u8], &[u8]); 5] = [
             (b"both", b"\x01body", b"meta"),
             (b"bare", b"bare", b""),
             (b"empty", b"", b""),
             (b"most", b"", &[0; 65_536]),
+            (b"signals", b"abc", b""),
         ];
         for (id, body, meta) in rows {
             let (answer, faults) = asked_twice(&rt, &disk, id);
@@ -330,8 +389,8 @@ mod tests {
 
     #[test]
     fn only_a_file_that_cannot_be_read_is_a_fault(rt: HostRuntime) {
-        let disk = (Disk, rt.alloc());
-        let rows: [(&[u8], _, _); 8] = [
+        let disk = disk_of(rt.alloc());
+        let rows: [(&[u8], _, _); 12] = [
             (b"none", ShelfStop::Absent, 0),
             (b"lone", ShelfStop::Absent, 0),
             (b"long", ShelfStop::SizeRefused(67_108_865), 0),
@@ -339,12 +398,27 @@ mod tests {
             (b"shut", ShelfStop::Failed, 2),
             (b"short", ShelfStop::Failed, 2),
             (b"silent", ShelfStop::Failed, 2),
+            (b"mute", ShelfStop::Failed, 2),
+            (b"folder", ShelfStop::Failed, 2),
+            (b"odd", ShelfStop::Failed, 2),
+            (b"swapped", ShelfStop::Failed, 2),
             (b"half", ShelfStop::Failed, 2),
         ];
         for (id, want, faults) in rows {
             let (answer, counted) = asked_twice(&rt, &disk, id);
             assert_eq!(rt; answer.err(), Some(want), "at {id:?}");
             assert_eq!(rt; counted, faults, "at {id:?}");
+        }
+    }
+
+    #[test]
+    fn what_is_no_regular_file_is_not_opened(rt: HostRuntime) {
+        let disk = disk_of(rt.alloc());
+        let rows: [(&[u8], _); 4] = [(b"none", 0), (b"folder", 0), (b"odd", 2), (b"both", 4)];
+        for (id, times) in rows {
+            disk.0.opened.set(0);
+            let _ = asked_twice(&rt, &disk, id);
+            assert_eq!(rt; disk.0.opened.get(), times, "at {id:?}");
         }
     }
 }

@@ -4,6 +4,7 @@
 mod dir_shelf;
 mod std_sink;
 mod std_source;
+mod tries;
 mod words;
 
 ghost use Rattle.std.specs.Prelude.{◌≡◌, [], All, OnOk};
@@ -14,7 +15,7 @@ use crate::std_source::StdSource;
 use crate::words::words;
 use expiring_map::Bytes;
 use handlers::{Handler, HandlerStock, Steady, Strategy};
-use mmkv_top::run;
+use mmkv_top::{most_openers, run};
 use std::alloc::AllocError;
 use std::process::ExitCode;
 
@@ -36,16 +37,13 @@ fn main(rt: HostRuntime) -> ExitCode {
     }
 }
 
-// As many openers as a script may open.
-const MOST_OPENERS: usize = 64;
-
-// The status of a command over a directory. Each opener of a script may have a handler of any strategy.
+// The status of a command over a directory. Each opener that it may open may have a handler of any strategy.
 fn status_of(rt: &HostRuntime, words: &[Bytes], directory: Bytes) -> Result<u8, AllocError> {
     let alloc = rt.alloc();
     let mut discard: Vec<Box<dyn Handler + Send>> = Vec::new(alloc);
     let mut recover: Vec<Box<dyn Handler + Send>> = Vec::new(alloc);
     let mut leave: Vec<Box<dyn Handler + Send>> = Vec::new(alloc);
-    for _ in 0..MOST_OPENERS {
+    for _ in 0..most_openers(words) {
         add(
             &mut discard,
             Box::new(alloc, Steady::new(alloc, Strategy::Discard))?,

@@ -1,8 +1,9 @@
 // Standard input, as a source.
 ghost use Rattle.std.specs.Prelude.{◌≡◌, None};
 
+use crate::tries::read_again;
 use region_words::{Failed, Source};
-use std::io::{Input, Read};
+use std::io::Input;
 
 /// Standard input. It tells nothing of what is left.
 #[derive(Drop)]
@@ -34,7 +35,7 @@ impl<R: Input> Source for StdSource<R> {
     ghost left = { λ s. None };
 
     fn read(&mut self, buffer: &mut [u8]) -> Result<usize, Failed> {
-        match self.reader.read(buffer) {
+        match read_again(&mut self.reader, buffer) {
             Ok(n) => {
                 if n == 0 && !buffer.is_empty() {
                     self.ends = self.ends.saturating_add(1);
@@ -52,19 +53,25 @@ impl<R: Input> Source for StdSource<R> {
 #[cfg(test)]
 mod tests {
     use super::*;
+    use crate::tries::MOST_TRIES;
     use std::alloc::Allocator;
     use std::io;
-    use std::io::{BufRead, ErrorKind, Lines};
+    use std::io::{BufRead, ErrorKind, Lines, Read};
 
-    // An input of a few bytes, behind which it ends or is broken.
+    // An input of a few bytes, behind which it ends or is broken. So many of its first reads are interrupted.
     #[derive(Clone, Copy)]
     struct Typed {
         left: &'static [u8],
         broken: bool,
+        interrupts: u32,
     }
 
     impl Read for Typed {
         fn read(&mut self, buf: &mut [u8]) -> io::Result<usize> {
+            if let Some(left) = self.interrupts.checked_sub(1) {
+                self.interrupts = left;
+                return Err(io::Error::from(ErrorKind::Interrupted));
+            }
             if self.left.is_empty() && self.broken {
                 return Err(io::Error::from(ErrorKind::BrokenPipe));
             }
@@ -110,6 +117,7 @@ mod tests {
         let mut source = StdSource::new(&Typed {
             left: b"abc",
             broken: false,
+            interrupts: 0,
         });
         for want in [(2, *b"ab"), (1, *b"c."), (0, *b"..")] {
             assert_eq!(rt; two_of(&mut source), Ok(want));
@@ -123,10 +131,27 @@ mod tests {
         let mut source = StdSource::new(&Typed {
             left: b"a",
             broken: true,
+            interrupts: 0,
         });
         assert_eq!(rt; two_of(&mut source), Ok((1, *b"a.")));
         for faults in [1, 2] {
             assert_eq!(rt; two_of(&mut source), Err(Failed));
+            assert_eq!(rt; source.faults, faults);
+        }
+    }
+
+    #[test]
+    fn an_interrupted_read_is_made_again(rt: HostRuntime) {
+        for (interrupts, want, faults) in [
+            (MOST_TRIES - 1, Ok((1, *b"a.")), 0),
+            (MOST_TRIES, Err(Failed), 1),
+        ] {
+            let mut source = StdSource::new(&Typed {
+                left: b"a",
+                broken: false,
+                interrupts,
+            });
+            assert_eq!(rt; two_of(&mut source), want);
             assert_eq!(rt; source.faults, faults);
         }
     }

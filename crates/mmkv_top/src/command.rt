@@ -1,9 +1,10 @@
 // The words of a command line, read by hand.
-ghost use Rattle.std.specs.Prelude.{MatchOption};
-ghost use Rattle.mmkv_top.specs.Command.{IsCommand, IsNoCommand};
+ghost use Rattle.std.specs.Prelude.{◌≡◌, ℕ, List, MatchOption, codes};
+ghost use Rattle.mmkv_top.specs.Command.{IsCommand, IsNamed, IsNoCommand};
 
 use expiring_map::Bytes;
 use region_words::is_id;
+use world::MOST_OPENERS;
 
 /// What is asked of the program.
 #[derive(Clone, Copy)]
@@ -29,5 +30,17 @@ pub(crate) fn command_of(words: &[Bytes]) -> Option<Command<'_>>
         b"dump" => Some(Command::Dump { id }),
         b"play" => Some(Command::Play { id }),
         _ => None,
+    }
+}
+
+/// How many openers the command may open, and so how many handlers of each strategy it may want of its caller.
+pub fn most_openers(words: &[Bytes]) -> usize
+    ensures play { (id : List ℕ) → IsNamed words.now (codes "play") id → result ≡ MOST_OPENERS }
+    ensures dump { (id : List ℕ) → IsNamed words.now (codes "dump") id → result ≡ 0 }
+    ensures none { IsNoCommand words.now → result ≡ 0 }
+{
+    match command_of(words) {
+        Some(Command::Play { .. }) => MOST_OPENERS,
+        Some(Command::Dump { .. }) | None => 0,
     }
 }

@@ -12,6 +12,7 @@ mod play;
 mod refusals;
 mod top;
 
+pub use command::most_openers;
 pub use ending::Status;
 pub use halt::{Halt, Halted};
 pub use limits::{LARGEST_COUNT, LARGEST_LINE};

@@ -1,25 +1,12 @@
 // A data file that grows, as it does before its pairs are written back for a put that has no room.
-ghost use Rattle.std.specs.Prelude.{◌≡◌, ◌<◌, ◌≤◌, false, None, Some, [], IfSome};
+ghost use Rattle.std.specs.Prelude.{◌≡◌, ◌<◌, ◌≤◌, false, Some, IfSome};
 ghost use Rattle.region_words.specs.Local.{seat_state};
 ghost use Rattle.region_words.specs.Share.{MayMake};
-ghost use Rattle.region_words.specs.Stores.{filled_up};
 
 use lock_rules::{LockKind, Tried};
-use region_words::{LocalRegion, LocalSeat, Share, What};
+use region_words::{LocalSeat, Share, What};
 use std::alloc::Global;
-
-// A fresh region whose opener 1 may make events.
-fn fresh(alloc: Global) -> Option<LocalSeat>
-    ensures alive { IfSome result (λ s. (seat_state s).ended ≡ false) }
-    ensures free { IfSome result (λ s. (seat_state s).holds ≡ None) }
-    ensures maker { IfSome result (λ s. s.who ≡ 1) }
-    ensures past { IfSome result (λ s. s.region.past ≡ []) }
-    ensures start { IfSome result (λ s. s.region.start ≡ record { data_bytes = filled_up []; meta_bytes = filled_up [] }) }
-{
-    let mut region = LocalRegion::new(alloc, Vec::new(alloc), Vec::new(alloc)).ok()?;
-    region.admit(1).ok()?;
-    Some(region.seat(1))
-}
+use test_support::opened;
 
 // Opener 1 holds the lock, and has a place and room for a growth to two pages.
 fn growing(alloc: Global) -> Option<LocalSeat>
@@ -29,7 +16,7 @@ fn growing(alloc: Global) -> Option<LocalSeat>
     ensures room { IfSome result (λ s. 8192 ≤ (seat_state s).room s.who) }
     ensures lawful { IfSome result (λ s. MayMake (What.Grow 8192) (seat_state s)) }
 {
-    let mut seat = fresh(alloc)?;
+    let mut seat = opened(alloc, b"", b"", &[])?;
     match seat.try_lock(LockKind::Exclusive) {
         Ok(Tried::Taken) => {}
         _ => return None,

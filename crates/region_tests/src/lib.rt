@@ -6,10 +6,11 @@
 mod changes;
 #[cfg(test)]
 mod growing;
-mod mute;
 #[cfg(test)]
 mod outside;
 #[cfg(test)]
 mod seats;
 #[cfg(test)]
 mod sharing;
+#[cfg(test)]
+mod silent;

@@ -1,6 +1,5 @@
 // Calls on a region in memory through a seat.
-ghost use Rattle.std.specs.Prelude.{◌≡◌, ◌<◌, false, [], Some, None, IfSome};
-ghost use Rattle.region_words.specs.Stores.{filled_up};
+ghost use Rattle.std.specs.Prelude.{◌≡◌, ◌<◌, false, Some, IfSome};
 ghost use Rattle.region_words.specs.Share.{MayMake, MayTearAt};
 ghost use Rattle.region_words.specs.Local.{seat_state};
 
@@ -9,26 +8,14 @@ use region_words::{
     LocalRegion, LocalSeat, Mark, Peek, RegionStop, Share, ShareStop, Side, TornStore, What,
 };
 use std::alloc::Global;
-
-// A fresh region whose opener 1 may make events; the calls of these numbers are to fail.
-fn admitted(alloc: Global, fails: Vec<u64>) -> Option<LocalSeat>
-    ensures alive { IfSome result (λ s. (seat_state s).ended ≡ false) }
-    ensures free { IfSome result (λ s. (seat_state s).holds ≡ None) }
-    ensures maker { IfSome result (λ s. s.who ≡ 1) }
-    ensures past { IfSome result (λ s. s.region.past ≡ []) }
-{
-    let mut region = LocalRegion::new(alloc, Vec::new(alloc), Vec::new(alloc)).ok()?;
-    region.fail_at(fails);
-    region.admit(1).ok()?;
-    Some(region.seat(1))
-}
+use test_support::{BODY, META, opened};
 
 fn holder(alloc: Global) -> Option<LocalSeat>
     ensures alive { IfSome result (λ s. (seat_state s).ended ≡ false) }
     ensures held { IfSome result (λ s. (seat_state s).holds ≡ Some LockKind.Exclusive) }
     ensures rests { IfSome result (λ s. MayMake What.Unlock (seat_state s)) }
 {
-    let mut seat = admitted(alloc, Vec::new(alloc))?;
+    let mut seat = opened(alloc, b"", b"", &[])?;
     match seat.try_lock(LockKind::Exclusive) {
         Ok(Tried::Taken) => Some(seat),
         _ => None,
@@ -45,8 +32,7 @@ fn word_3<S: Share>(share: &mut S) -> Result<u32, ShareStop>
 
 #[test]
 fn a_word_is_loaded_from_its_place(rt: HostRuntime) {
-    let body = b"\x0b\0\0\0\xff\xff\xff\x07\x01k\x04\x03abc";
-    let mut seat = opened(rt.alloc(), body, b"").expect(&rt, "ample memory");
+    let mut seat = opened(rt.alloc(), &BODY, b"", &[]).expect(&rt, "ample memory");
     assert_eq!(rt; word_3(&mut seat), Ok(u32::from_le_bytes(*b"abc\0")));
 }
 
@@ -58,21 +44,6 @@ fn an_unlock_is_noted_and_frees_the_lock(rt: HostRuntime) {
     assert_eq!(rt; seat.region().journal().len(), 3);
 }
 
-// A region of these files whose opener 1 may make events.
-fn opened(alloc: Global, body: &[u8], meta: &[u8]) -> Option<LocalSeat>
-    ensures alive { IfSome result (λ s. (seat_state s).ended ≡ false) }
-    ensures free { IfSome result (λ s. (seat_state s).holds ≡ None) }
-    ensures maker { IfSome result (λ s. s.who ≡ 1) }
-    ensures past { IfSome result (λ s. s.region.past ≡ []) }
-    ensures start { IfSome result (λ s. s.region.start ≡ record { data_bytes = filled_up body.now; meta_bytes = filled_up meta.now }) }
-{
-    let body = body.to_vec(alloc).ok()?;
-    let meta = meta.to_vec(alloc).ok()?;
-    let mut region = LocalRegion::new(alloc, body, meta).ok()?;
-    region.admit(1).ok()?;
-    Some(region.seat(1))
-}
-
 // Opener 1 holds the lock of a store whose header alone agrees, and has a place for one store.
 fn repairing(alloc: Global) -> Option<LocalSeat>
     ensures alive { IfSome result (λ s. (seat_state s).ended ≡ false) }
@@ -82,8 +53,9 @@ fn repairing(alloc: Global) -> Option<LocalSeat>
 {
     let mut seat = opened(
         alloc,
-        b"\x0b\0\0\0\xff\xff\xff\x07\x01k\x04\x03abc",
+        &BODY,
         b"\xd3\x95\x65\x3a\x03\0\0\0\x01\0\0\0\0\0\0\0\0\0\0\0\0\0\0\0\0\0\0\0\x04\0\0\0\x04\0\0\0\xd1\x85\x99\x4c",
+        &[],
     )?;
     match seat.try_lock(LockKind::Exclusive) {
         Ok(Tried::Taken) => {}
@@ -100,11 +72,7 @@ fn appending(alloc: Global) -> Option<LocalSeat>
     ensures alive { IfSome result (λ s. (seat_state s).ended ≡ false) }
     ensures tears { IfSome result (λ s. MayTearAt (Some (record { word = 3; new = 0x01636261; bits = 0xffffffff })) (seat_state s)) }
 {
-    let mut seat = opened(
-        alloc,
-        b"\x0b\0\0\0\xff\xff\xff\x07\x01k\x04\x03abc",
-        b"\xd3\x95\x65\x3a\x03\0\0\0\x01\0\0\0\0\0\0\0\0\0\0\0\0\0\0\0\0\0\0\0\x0b\0\0\0\x04\0\0\0\xd1\x85\x99\x4c",
-    )?;
+    let mut seat = opened(alloc, &BODY, &META, &[])?;
     match seat.try_lock(LockKind::Exclusive) {
         Ok(Tried::Taken) => Some(seat),
         _ => None,
@@ -161,10 +129,7 @@ fn a_fresh_region_is_a_page_of_zeros(rt: HostRuntime) {
 
 #[test]
 fn a_listed_call_is_a_death(rt: HostRuntime) {
-    let alloc = rt.alloc();
-    let mut calls = Vec::new(alloc);
-    calls.push(1).expect(&rt, "ample memory");
-    let mut seat = admitted(alloc, calls).expect(&rt, "ample memory");
+    let mut seat = opened(rt.alloc(), b"", b"", &[1]).expect(&rt, "ample memory");
     assert_eq!(rt; seat.try_lock(LockKind::Shared), Ok(Tried::Taken));
     assert_eq!(rt; seat.size(), Err(ShareStop::Failed));
     assert_eq!(rt; seat.region().journal().len(), 2);

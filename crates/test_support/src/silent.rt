@@ -1,13 +1,15 @@
-// A share that tells nothing of its journal, as one over real files: a test of the trait.
+// A share that tells nothing of its journal, over words that others may change between its calls, as in real files.
 ghost use Rattle.std.specs.Prelude.{◌≡◌, None, false};
 ghost use Rattle.region_words.specs.Outside.{one_more};
 
 use lock_rules::{LockKind, Tried};
 use region_words::{Mark, Peek, Share, ShareStop, Side, TornStore, Unstored};
 
-// A share of opener 1 that tells nothing, over files of zeros. Nothing is stored.
+/// A share of opener 1. Its files have these words, and zeros behind them. Nothing is stored.
 #[derive(Drop)]
-struct Mute {
+pub struct Silent {
+    data: [u32; 4],
+    meta: [u32; 10],
     lock: Option<LockKind>,
     ended: bool,
     places: u32,
@@ -15,17 +17,32 @@ struct Mute {
     loads: u64,
 }
 
-impl Mute {
-    fn new() -> Self
-        ensures { result ≡ record { lock = None; ended = false; places = 0; room = 0; loads = 0 } }
+impl Silent {
+    ghost use Rattle.test_support.specs.Silent.{silent_state};
+
+    /// Nobody holds a lock, and nothing was loaded yet.
+    pub fn new(data: [u32; 4], meta: [u32; 10]) -> Self
+        ensures alive { (silent_state result).ended ≡ false }
+        ensures free { (silent_state result).holds ≡ None }
+        ensures mute { (silent_state result).told ≡ None }
     {
-        Mute {
+        Silent {
+            data,
+            meta,
             lock: None,
             ended: false,
             places: 0,
             room: 0,
             loads: 0,
         }
+    }
+
+    /// Another opener leaves these two words.
+    pub fn change(&mut self, checksum: u32, sequence: u32)
+        ensures { silent_state self.new ≡ silent_state self.old }
+    {
+        self.meta[0] = checksum;
+        self.meta[2] = sequence;
     }
 
     fn count_load(&mut self)
@@ -35,10 +52,10 @@ impl Mute {
     }
 }
 
-impl Share for Mute {
-    ghost use Rattle.region_tests.specs.Mute.{mute_state};
+impl Share for Silent {
+    ghost use Rattle.test_support.specs.Silent.{silent_state};
 
-    ghost state = { mute_state };
+    ghost state = { silent_state };
 
     fn who(&self) -> u32 {
         1
@@ -53,22 +70,26 @@ impl Share for Mute {
         Ok(4096)
     }
 
-    fn load(&mut self, _side: Side, _word: u32) -> Result<u32, ShareStop> {
+    fn load(&mut self, side: Side, word: u32) -> Result<u32, ShareStop> {
         self.count_load();
-        Ok(0)
+        let found = match side {
+            Side::Data => self.data.get(word as usize).copied(),
+            Side::Meta => self.meta.get(word as usize).copied(),
+        };
+        Ok(found.unwrap_or(0))
     }
 
     fn peek_checksum(&mut self) -> Result<Peek, ShareStop> {
         self.count_load();
         Ok(Peek {
-            checksum: 0,
+            checksum: self.meta[0],
             changes: 0,
         })
     }
 
     fn peek_sequence(&mut self) -> Result<u32, ShareStop> {
         self.count_load();
-        Ok(0)
+        Ok(self.meta[2])
     }
 
     fn reserve(&mut self, events: u32, size: u32) -> Result<(), ShareStop> {
@@ -104,41 +125,5 @@ impl Share for Mute {
         self.lock = None;
         self.ended = true;
         Ok(())
-    }
-}
-
-#[cfg(test)]
-mod tests {
-    use super::*;
-    use region_words::LocalRegion;
-
-    // A share is used by its clauses alone, as of another type.
-    fn lock_and_reserve<S: Share>(share: &mut S) -> Result<(), ShareStop>
-        requires alive { (S.state share.old).ended ≡ false }
-        requires free { (S.state share.old).holds ≡ None }
-    {
-        if share.try_lock(LockKind::Exclusive)? == Tried::Taken {
-            share.reserve(1, 0)?;
-        }
-        Ok(())
-    }
-
-    #[test]
-    fn a_share_that_tells_nothing_is_used_by_its_clauses(rt: HostRuntime) {
-        let mut share = Mute::new();
-        assert_eq!(rt; share.size(), Ok(4096));
-        assert_eq!(rt; lock_and_reserve(&mut share), Ok(()));
-    }
-
-    #[test]
-    fn a_seat_is_used_by_the_same_clauses(rt: HostRuntime) {
-        let alloc = rt.alloc();
-        let mut region = LocalRegion::new(alloc, Vec::new(alloc), Vec::new(alloc)).expect(
-            &rt,
-            "ample memory",
-        );
-        region.admit(1).expect(&rt, "ample memory");
-        let mut seat = region.seat(1);
-        assert_eq!(rt; lock_and_reserve(&mut seat), Ok(()));
     }
 }
