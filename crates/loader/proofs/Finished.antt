@@ -19,7 +19,9 @@ use Rattle.loader.specs.FirstWords.{HasWords, IsDataSize, IsWritten, record_in, 
 use Rattle.loader.specs.Outlooks.{IsLoaded, IsDue}
 use Rattle.loader.specs.Loads.{Load, IsLoad, IsLoadedWhole}
 use Rattle.loader.specs.declared.first_words.FirstWords.{FirstWords}
+use Rattle.loader.specs.PartialLoads.{IsSoundImage}
 use Rattle.loader.specs.declared.found.Found.{Found}
+use Rattle.loader.specs.declared.loaded.Loaded.{Loaded}
 use Rattle.loader.specs.declared.outlook.Outlook.TheVariants as outlook
 
 -- no image
@@ -82,3 +84,7 @@ finished l found s rec header good is rec_is header_is =
 
     file : IsDataSize (size_in l.first)
     file = good.file some
+
+-- the image of a load that is done is sound
+pub sound_image : (l : Loaded) → IsLoadedWhole l → IsSoundImage l.image
+sound_image l w = record { file = w.file; within = omega (arith, w.size, w.within); map = w.map; firm = w.firm; words = w.words }

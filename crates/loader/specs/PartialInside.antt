@@ -1,7 +1,7 @@
 -- A partial load by its fields.
 use Rattle.std.specs.Prelude.{◌≡◌, ◌+◌, ◌%◌, ◌<◌, ◌≤◌, [], length}
 use Rattle.loader.specs.FirstWords.{IsDataSize}
-use Rattle.loader.specs.PartialLoads.{PartialLoad, added_size}
+use Rattle.loader.specs.PartialLoads.{PartialLoad, added_size, size_in}
 use Rattle.loader.specs.declared.partial.PartialLoading.TheInside.{Inside}
 
 -- the load that its fields stand for
@@ -16,6 +16,7 @@ pub record IsPartialLoad (p : PartialLoad) : Type 0 where
   pub file : IsDataSize p.file_size
   pub whole : length p.added % 4 ≡ 0
   pub few : length p.added < added_size p + 4
+  pub room : 0 < length p.added → 4 + size_in p ≤ p.file_size
 
 abbrev pub IsPartUnderWay : Inside → Type 0
 IsPartUnderWay l = IsPartialLoad (partial_load_of l)

@@ -6,6 +6,7 @@ ghost use Rattle.region_words.specs.Told.{OnTold};
 ghost use Rattle.region_words.specs.Share.{IsSound, Goes, Stops, loaded};
 ghost use Rattle.loader.specs.FirstWords.{HasAccepted, IsDataSize, first_answers, size_in};
 ghost use Rattle.loader.specs.Loads.{HasLoaded, loads_of, next_answer, next_payload_word, is_done, Says, IsLoadOf, IsLoadedWhole, StopsLoading, Refuses, IsTenthIfRecord};
+ghost use Rattle.loader.specs.PartialLoads.{IsSoundImage};
 
 use crate::candidates::Candidate;
 use crate::first_words::FirstWords;
@@ -187,6 +188,7 @@ impl Loading {
     pub fn finish(self) -> Loaded
         requires { is_done self ≡ true }
         ensures whole { IsLoadedWhole result }
+        ensures sound { IsSoundImage result.image }
         ensures told { (r : Region) → HasLoaded self r → IsLoadOf result r }
     {
         let Loading {

@@ -1,7 +1,8 @@
 // A load that goes on from a kept image: it loads what was appended behind it, and nothing that is known.
-ghost use Rattle.std.specs.Prelude.{◌≡◌, ◌≢◌, ◌+◌, ◌%◌, ◌^◌, ◌<◌, ◌≤◌, [], All, List, None, Ok, false, length, IfOk, IfErr, IfSome, OnOk};
+ghost use Rattle.std.specs.Prelude.{◌≡◌, ◌≢◌, ◌+◌, ◌%◌, ◌/◌, ◌^◌, ◌<◌, ◌≤◌, [], All, List, None, Ok, false, length, IfOk, IfErr, IfSome, OnOk};
 ghost use Rattle.crc_words.specs.Crc.{crc_from};
 ghost use Rattle.kv_pairs.specs.Found.{HaveKeys};
+ghost use Rattle.kv_pairs.specs.Growth.{largest};
 ghost use Rattle.kv_pairs.specs.Mapped.{first_without_room, with_items};
 ghost use Rattle.kv_pairs.specs.Reading.{units_at};
 ghost use Rattle.kv_pairs.specs.declared.item.Item.{Item};
@@ -108,6 +109,8 @@ impl PartialLoading {
         requires so_far { OnTold (S.state share.old).told (λ h. HasLoadedPart self.old (region_after h.start h.past)) }
         ensures goes { OnOk result (Goes (loaded (S.state share.old)) (S.state share.old) (S.state share.new)) }
         ensures loads { OnOk result (loads_made self.new ≡ loads_made self.old + 1) }
+        ensures bound { OnOk result (loads_made self.new ≤ 4 + (added_size self.new + 3) / 4) }
+        ensures most { OnOk result (loads_made self.new ≤ 4 + largest / 4) }
         ensures kept { OnOk result (self.new.kept ≡ self.old.kept) }
         ensures going { IfOk result (λ ran. ran ≡ Ran.Going → IsGoing self.new × (self.new.map ≡ self.old.map)) }
         ensures holds { IfOk result (λ ran. ran ≡ Ran.Holds → Extends self.old.map self.new) }
@@ -154,6 +157,8 @@ impl PartialLoading {
         requires going { IsGoing self.old }
         requires pages { need_of self.old ≡ Need.FileSize → IsDataSize value }
         ensures loads { OnOk result (loads_made self.new ≡ loads_made self.old + 1) }
+        ensures bound { OnOk result (loads_made self.new ≤ 4 + (added_size self.new + 3) / 4) }
+        ensures most { OnOk result (loads_made self.new ≤ 4 + largest / 4) }
         ensures kept { OnOk result ((self.new.kept ≡ self.old.kept) × (self.new.map ≡ self.old.map)) }
         ensures told { OnOk result ((r : Region) → IsRegion r → HasLoadedPart self.old r → value ≡ next_part self.old r → HasLoadedPart self.new r) }
     {
@@ -171,6 +176,8 @@ impl PartialLoading {
     fn take_payload_word(&mut self, value: u32) -> Result<(), Memory>
         requires payload { need_of self.old ≡ Need.Payload }
         ensures loads { OnOk result (loads_made self.new ≡ loads_made self.old + 1) }
+        ensures bound { OnOk result (loads_made self.new ≤ 4 + (added_size self.new + 3) / 4) }
+        ensures most { OnOk result (loads_made self.new ≤ 4 + largest / 4) }
         ensures kept { OnOk result ((self.new.kept ≡ self.old.kept) × (self.new.map ≡ self.old.map)) }
         ensures told { OnOk result ((r : Region) → IsRegion r → HasLoadedPart self.old r → value ≡ next_part self.old r → HasLoadedPart self.new r) }
     {

@@ -7,6 +7,8 @@ mod appends;
 #[cfg(test)]
 mod loads;
 #[cfg(test)]
+mod partials;
+#[cfg(test)]
 mod seen;
 #[cfg(test)]
 mod write_backs;

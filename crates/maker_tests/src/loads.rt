@@ -1,5 +1,6 @@
 // Loads of a few regions, by single steps.
-ghost use Rattle.std.specs.Prelude.{◌≡◌, ◌≢◌, false, None, IfSome};
+ghost use Rattle.std.specs.Prelude.{◌≡◌, ◌≢◌, false, None, IfOk, IfSome};
+ghost use Rattle.loader.specs.PartialLoads.{IsSoundImage};
 ghost use Rattle.region_words.specs.Local.{seat_state};
 
 use loader::{LoadStop, Loaded, Loading, Went};
@@ -14,12 +15,12 @@ use std::test::Fail;
 use test_support::{BODY, opened};
 
 // The checksums of the store's payload and of its first four bytes, from zlib.
-const CRC: u32 = 0x3a65_95d3;
+pub(crate) const CRC: u32 = 0x3a65_95d3;
 
 const CRC_OF_4: u32 = 0x4c99_85d1;
 
 // Its record, with a few words changed.
-fn meta_with(changes: &[(usize, u32)]) -> [u8; 112] {
+pub(crate) fn meta_with(changes: &[(usize, u32)]) -> [u8; 112] {
     let mut meta = [0; 112];
     for (word, value) in [
         (WORD_CHECKSUM, CRC),
@@ -40,7 +41,7 @@ fn meta_with(changes: &[(usize, u32)]) -> [u8; 112] {
 }
 
 // A seat at a region of these files that holds the lock. Its calls after that fail at the listed numbers, from 1 on.
-fn holder(
+pub(crate) fn holder(
     alloc: Global,
     body: &[u8],
     meta: &[u8],
@@ -58,9 +59,10 @@ fn holder(
 }
 
 // A whole load, and the loads that were made; another share is used by the same clauses.
-fn load_all<S: Share>(alloc: Global, share: &mut S) -> (Result<Loaded, LoadStop>, u32)
+pub(crate) fn load_all<S: Share>(alloc: Global, share: &mut S) -> (Result<Loaded, LoadStop>, u32)
     requires alive { (S.state share.old).ended ≡ false }
     requires lock { (S.state share.old).holds ≢ None }
+    ensures { IfOk result.0 (λ loaded. IsSoundImage loaded.image) }
 {
     let mut loading = Loading::full(alloc);
     let mut made = 0;
