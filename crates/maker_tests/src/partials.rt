@@ -58,6 +58,9 @@ fn go_on_in(
 ) -> Option<(Ran, u32, Option<Image>)> {
     let image = kept(alloc)?;
     let mut seat = holder(alloc, body, &meta_with(words), LockKind::Shared, &[])?;
+    if image.standing.file_size as usize > seat.region().data_bytes().len() {
+        return None;
+    }
     let (result, made, image) = go_on(alloc, &mut seat, image);
     Some((result.ok()?, made, image))
 }

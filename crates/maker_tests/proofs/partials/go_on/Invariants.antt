@@ -5,8 +5,8 @@ use Rattle.region_words.specs.Told.{OnTold}
 use Rattle.loader.specs.PartialLoads.{HasLoadedPart, IsGoing, loads_made}
 use Rattle.maker_tests.proofs.partials.go_on.Given as goal
 
-abbrev pub invariant-loop-match : goal.invariant-loop-match
-invariant-loop-match g l =
+abbrev pub invariant-loop-made : goal.invariant-loop-made
+invariant-loop-made g l =
     record {
       alive : (g.S.Share.state l.share).ended ≡ false;
       lock : (g.S.Share.state l.share).holds ≢ None;
@@ -16,5 +16,5 @@ invariant-loop-match g l =
       few : l.made ≤ 16777220;
     }
 
-abbrev pub decreases-loop-match : goal.decreases-loop-match
-decreases-loop-match g l = 16777220 - loads_made l.loading
+abbrev pub decreases-loop-made : goal.decreases-loop-made
+decreases-loop-made g l = 16777220 - loads_made l.loading
