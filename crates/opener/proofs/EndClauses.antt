@@ -9,7 +9,7 @@ use Rattle.region_words.specs.Share.{ShareState, Goes, loaded}
 use Rattle.opener.specs.State.{OpenerState}
 use Rattle.opener.specs.Calls.{IsPlain, holds_after}
 use Rattle.opener.specs.Continues.{SameCall}
-use Rattle.opener.specs.Ends.{GoesOn, Leaves, LeavesBy}
+use Rattle.opener.specs.Ends.{Finishes, GoesOn, Leaves, LeavesBy}
 use Rattle.opener.specs.Opener.{HasCause, HasReason, KeepsCall, MakesOne, MayEnd, OnAnswer, stop_found}
 use Rattle.opener.specs.declared.calls.Step.{Step}
 use Rattle.opener.specs.declared.calls.Step.TheVariants as step
@@ -71,22 +71,27 @@ stop_call who holds running why.SequenceEnd new may idle keeps = (idle, keeps)
 stop_call who holds running why.ExpiryOff new may idle keeps = (idle, keeps)
 stop_call who holds running why.ExpiryRange new may idle keeps = (idle, keeps)
 
--- a call that leaves so is the call that ran
+-- a call that ends so is the call that ran
+pub finishes_call : (who holds : ℕ) (running next : Running) (how : End) (ended : ℕ) (mid : OpenerState) (result : Step) (new : OpenerState) → SameCall running next → IsPlain running.call →
+    MayEnd how → mid.who ≡ who → mid.holds ≡ holds → Finishes next how ended mid result new → KeepsCall who holds running result new
+finishes_call who holds running next (end.Answer place reply) ended mid result new same plain may by keeps is =
+    subst (λ r. KeepsCall who holds running r new) (sym is.0) (
+      record { by = by; call_is = same.call; moment = same.now; begun = same.begun },
+      ap (λ (n : OpenerState). n.work) is.1,
+      ap (λ (n : OpenerState). n.holds) is.1 ∙ keeps ∙ sym (plain_holds running.call holds plain),
+    )
+finishes_call who holds running next (end.Stop stop) ended mid result new same plain may by keeps is =
+    subst (λ r. KeepsCall who holds running r new) (sym is.0)
+    (stop_call who holds running stop new may (ap (λ (n : OpenerState). n.work) is.1) (ap (λ (n : OpenerState). n.holds) is.1 ∙ keeps))
+
+-- and so is one that leaves
 pub leaves_call : (who holds : ℕ) (running next : Running) (how : End) (ended : ℕ) (mid : OpenerState) (result : Step) (new : OpenerState) → SameCall running next → IsPlain running.call →
     MayEnd how → mid.who ≡ who → mid.holds ≡ holds → Leaves next how ended mid result new → KeepsCall who holds running result new
-leaves_call who holds running next how ended mid result new same plain may by keeps leaves = go next.taken how may leaves
+leaves_call who holds running next how ended mid result new same plain may by keeps leaves = go next.taken leaves
   where
-    go : (taken : Option LockKind) (how : End) → MayEnd how → LeavesBy taken next how ended mid result new → KeepsCall who holds running result new
-    go (Some kind) how may is = going_call who holds running next (Unlock how) mid result new same keeps is
-    go None (end.Answer place reply) may is =
-        subst (λ r. KeepsCall who holds running r new) (sym is.0) (
-          record { by = by; call_is = same.call; moment = same.now; begun = same.begun },
-          ap (λ (n : OpenerState). n.work) is.1,
-          ap (λ (n : OpenerState). n.holds) is.1 ∙ keeps ∙ sym (plain_holds running.call holds plain),
-        )
-    go None (end.Stop stop) may is =
-        subst (λ r. KeepsCall who holds running r new) (sym is.0)
-        (stop_call who holds running stop new may (ap (λ (n : OpenerState). n.work) is.1) (ap (λ (n : OpenerState). n.holds) is.1 ∙ keeps))
+    go : (taken : Option LockKind) → LeavesBy taken next how ended mid result new → KeepsCall who holds running result new
+    go (Some kind) is = going_call who holds running next (Unlock how) mid result new same keeps is
+    go None is = finishes_call who holds running next how ended mid result new same plain may by keeps is
 
 -- an end that is a stop has its reason
 abbrev pub EndHasReason : Work → End → ShareState → ShareState → Type 0

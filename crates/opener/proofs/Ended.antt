@@ -1,5 +1,5 @@
 -- A call ends once its lock is given up.
-use Rattle.std.proofs.Common.{◌≡◌, ◌≢◌, ℕ, zero, suc, ◌<◌, arith, [], ◌∷◌, length, refl, sym, ◌∙◌, subst, ap, inl, inr}
+use Rattle.std.proofs.Common.{◌≡◌, ◌≢◌, ℕ, zero, suc, ◌<◌, arith, [], ◌∷◌, length, refl, sym, ◌∙◌, subst, ap, inl, inr, lit≤}
 use Rattle.std.specs.Prelude.{None, ⊤}
 use Rattle.region_words.specs.Past.{changes_of}
 use Rattle.region_words.specs.Told.{OnTold, changes_told}
@@ -21,6 +21,13 @@ use Rattle.opener.specs.declared.work.Work.TheVariants.{Idle, Runs}
 use Rattle.opener.proofs.Carry.{none_reserved, tied_after, told_call, changes_are, image_later, end_later, own_if}
 use Rattle.opener.proofs.Leaves.{is_answer}
 use Rattle.opener.proofs.Stopped.{nothing_told}
+use Rattle.opener.specs.Steps.{Steps}
+use Rattle.opener.proofs.Added.{adds_quietly, unlock_quietly}
+use Rattle.opener.proofs.Adding.{finishes_made, finishes_counts, none_more}
+use Rattle.opener.proofs.EndClauses.{finishes_call}
+use Rattle.opener.proofs.Falling.{finishes_falls}
+use Rattle.opener.proofs.StopClauses.{same_call}
+use Rattle.opener.proofs.Storing.{finishes_stored}
 
 none_or_some : (holds : ℕ) → (0 < holds → ⊥) → holds ≡ 0
 none_or_some zero none = refl
@@ -76,14 +83,17 @@ pub unlocked_cause : (o : OpenerState) (running : Running) (how : End) (ended : 
 unlocked_cause o running (end.Answer place reply) ended result new s t is = subst (λ r. HasCause (Runs running (stage.Unlock (end.Answer place reply))) r new.work s t) (sym is.0) tt
 unlocked_cause o running (end.Stop why) ended result new s t is = subst (λ r. HasCause (Runs running (stage.Unlock (end.Stop why))) r new.work s t) (sym is.0) (inl refl)
 
--- or the unlock was not answered
-pub still_locked_cause : (o : OpenerState) (running : Running) (how : End) (why : ShareStop) (result : Step) (new : OpenerState) (s t : ShareState) →
-    AfterStop why o running (stage.Unlock how) result new → Stops why s t → HasCause (Runs running (stage.Unlock how)) result new.work s t
-still_locked_cause o running how stops.Turn result new s t is away =
-    subst (λ r. HasCause (Runs running (stage.Unlock how)) r new.work s t) (sym is.0) (away, ap (λ (n : OpenerState). n.work) is.1)
-still_locked_cause o running (end.Answer place reply) stops.Failed result new s t is fails =
-    subst (λ r. HasCause (Runs running (stage.Unlock (end.Answer place reply))) r new.work s t) (sym is.0) fails
-still_locked_cause o running (end.Stop why) stops.Failed result new s t is fails =
-    subst (λ r. HasCause (Runs running (stage.Unlock (end.Stop why))) r new.work s t) (sym is.0) (inr (refl, fails))
-still_locked_cause o running how stops.Memory result new s t is stop = absurd stop
-still_locked_cause o running how stops.JournalFull result new s t is stop = absurd stop
+-- its lock is given up, and the call is over
+pub unlocks : {o : OpenerState} {running : Running} {how : End} {result : Step} {new : OpenerState} {s t : ShareState} → Tied (running_as o running (stage.Unlock how)) s → (ended : ℕ) → Goes (unlocked_by s) s t →
+    Finishes running how ended o result new → ended ≡ changes_told t.told → Steps o running (stage.Unlock how) result new s t
+unlocks {o} {running} {how} {result} {new} {s} {t} tied ended goes is count =
+    record {
+      tied = unlocked_tied o running s t goes how ended result new tied is;
+      makes = inr (unlocked_by s, goes.after, lit≤ tt);
+      adds = adds_quietly o.who running (stage.Unlock how) result new.work s t 0 0 (unlock_quietly goes) (finishes_stored running o result new how ended is)
+          (λ so_far are. finishes_made o.who running running o result new how ended so_far is are) (finishes_counts o.who running running o result new how ended 0 0 0 is (none_more running));
+      call = finishes_call o.who o.holds running running how ended o result new (same_call running) tied.at.1 tied.at.2.1 refl refl is;
+      cause = unlocked_cause o running how ended result new s t is;
+      answer = unlocked_answer o running s t goes how ended result new tied count is;
+      falls = finishes_falls running running (stage.Unlock how) how ended o result new t is;
+    }

@@ -6,7 +6,6 @@ pub mod Carry
 pub mod EndClauses
 pub mod Ended
 pub mod Falling
-pub mod Finished
 pub mod Followed
 pub mod Holds
 pub mod Leading
@@ -30,6 +29,7 @@ pub mod Settling
 pub mod Sized
 pub mod Stages
 pub mod Starting
+pub mod StepEnds
 pub mod StopClauses
 pub mod Stopped
 pub mod Stored

@@ -25,15 +25,13 @@ use Rattle.region_words.proofs.Shows.{whole_shown}
 use Rattle.loader.specs.declared.loaded.Image.{Image}
 use Rattle.opener.specs.State.{OpenerState}
 use Rattle.opener.specs.Calls.{IsPlain, is_write}
-use Rattle.opener.specs.Ends.{GoesOn, Reads, ReadsBy, is_current, lock_by}
-use Rattle.opener.specs.Opener.{Facts, Tied, HasCause, ImageIs, IsShown, LooksUnder, WasShown, WasPeeked, running_as, stop_found}
-use Rattle.opener.specs.declared.calls.Step.{Step}
+use Rattle.opener.specs.Ends.{Reads, ReadsBy, is_current, lock_by}
+use Rattle.opener.specs.Opener.{Facts, Tied, ImageIs, IsShown, LooksUnder, WasShown, WasPeeked, running_as, stop_found}
 use Rattle.opener.specs.declared.work.Running.{Running}
 use Rattle.opener.specs.declared.work.Stage.{Stage}
 use Rattle.opener.specs.declared.work.Stage.TheVariants.{PeekSequence, LockShared, Load}
 use Rattle.opener.specs.declared.work.Work.TheVariants.{Runs}
 use Rattle.opener.proofs.Carry.{none_reserved, tied_after, told_call, more_changes}
-use Rattle.opener.proofs.EndClauses.{going_cause}
 use Rattle.opener.proofs.Leaves.{Leaving}
 use Rattle.opener.proofs.Ready.{ReadyWith}
 use Rattle.opener.proofs.Same.{SameLock}
@@ -157,8 +155,8 @@ module _ (o : OpenerState) (running next : Running) (peek : Peek) (s t : ShareSt
           }
 
   -- else the region is loaded
-  pub reading_tied : (stage : Stage) (result : Step) (new : OpenerState) → Reads o.holds running.taken stage → GoesOn next stage o result new → Tied new t
-  reading_tied stage result new reads on = subst (λ (n : OpenerState). Tied n t) (sym on.1) (go (lock_by o.holds running.taken) refl reads)
+  pub reading_then : (stage : Stage) → Reads o.holds running.taken stage → Tied (running_as o next stage) t
+  reading_then stage reads = go (lock_by o.holds running.taken) refl reads
     where
       free : (b : Bool) → (o.holds == 0) ≡ b → cond b running.taken (Some Exclusive) ≡ None → (o.holds ≡ 0) × (running.taken ≡ None)
       free true zero none = (grind (arith, nat_tests, zero), none)
@@ -189,12 +187,3 @@ module _ (o : OpenerState) (running next : Running) (peek : Peek) (s t : ShareSt
             rests = λ held calm. facts.rests (lock ∙ held) refl;
             work = (omega (arith, same.same.begun, facts.work.0), is.2.told (region_after start past));
           }))
-
-  -- and no reason to stop is found
-  pub reading_cause : (stage : Stage) (result : Step) (new : OpenerState) → Reads o.holds running.taken stage → GoesOn next stage o result new →
-      HasCause (Runs running (PeekSequence peek)) result new.work s t
-  reading_cause stage result new reads on = going_cause (Runs running (PeekSequence peek)) next stage o result new s t (go (lock_by o.holds running.taken) reads) on
-    where
-      go : (k : Option LockKind) → ReadsBy k stage → stop_found (Runs next stage) ≡ None
-      go None is = ap (λ z. stop_found (Runs next z)) is
-      go (Some kind) is = ap (λ z. stop_found (Runs next z)) is.1

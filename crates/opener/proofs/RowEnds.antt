@@ -1,5 +1,5 @@
 -- What a row leaves once its last event is made: the image that it leads to, whole.
-use Rattle.std.proofs.Common.{◌≡◌, ℕ, ◌+◌, ◌≤◌, true, List, [], ◌∷◌, ◌++◌, refl, sym, ◌∙◌, subst, ap, arith, append-nil}
+use Rattle.std.proofs.Common.{◌≡◌, ℕ, ◌≤◌, true, List, [], ◌∷◌, ◌++◌, refl, sym, ◌∙◌, subst, ap, arith, append-nil}
 use Rattle.std.specs.Prelude.{Option, Some, None, IsTrue, is_some, option_and_then}
 use Rattle.expiring_map.specs.Map.{Map}
 use Rattle.change_log.specs.Acts.{replay}
