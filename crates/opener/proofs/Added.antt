@@ -36,8 +36,8 @@ grows_none who alone None = tt
 grows_none who alone (Some h) = record { start = refl; others = []; by_others = tt; none = λ e. refl; past = refl }
 
 -- the changes of a call that made some so far are the first that it makes
-begun_at : (who : ℕ) (running : Running) (at : Stage) (made : List Change) → AreMadeAt who running at made → AreBegun who running.call running.now made
-begun_at who running at made are = go at are
+pub made_first : (who : ℕ) (running : Running) (at : Stage) (made : List Change) → AreMadeAt who running at made → AreBegun who running.call running.now made
+made_first who running at made are = go at are
   where
     first_none : (act : Option Act) → (more : List Change) × AreOfAct who running.now act more
     first_none None = ([], refl)
@@ -60,19 +60,20 @@ begun_at who running at made are = go at are
     go stage.Hold none = nothing none
     go stage.Release none = nothing none
 
--- what was done to the share changed nothing in the region, with so many loads and locks
-pub record Quietly (loads locks : ℕ) (s t : ShareState) : Type 0 where
+-- what was done to the share changed nothing in the region, with so many loads, and took this lock or none
+pub record Quietly (loads : ℕ) (lock : Option LockKind) (s t : ShareState) : Type 0 where
   pub own : List What
   pub grows : OnBoth s.told t.told (Grows s.who s.alone own)
   pub makes : MakesOne s t
   pub load : Loads loads s t
-  pub took : locks_taken s.holds t.holds ≡ locks
+  pub took : locks_taken s.holds t.holds ≡ locks_taken None lock
+  pub takes : (kind : LockKind) → s.holds ≡ None → t.holds ≡ Some kind → lock ≡ Some kind
   pub stores : stores_in own ≡ 0
   pub commits : commits_of own ≡ []
   pub changes : filter changes_region own ≡ []
 
 module _ {s t : ShareState} where
-  pub load_quietly : Goes (loaded s) s t → Quietly 1 0 s t
+  pub load_quietly : Goes (loaded s) s t → Quietly 1 None s t
   load_quietly goes =
       record {
         own = [];
@@ -80,12 +81,13 @@ module _ {s t : ShareState} where
         makes = inr (loaded s, goes.after, lit≤ tt);
         load = inr (refl, ap (λ c. c.loads) goes.after.counts);
         took = keeps_lock s.holds t.holds goes.after.holds;
+        takes = λ kind none some. sym none ∙ (sym goes.after.holds ∙ some);
         stores = refl;
         commits = refl;
         changes = refl;
       }
 
-  pub lock_quietly : (kind : LockKind) → Goes (locked kind s) s t → s.holds ≡ None → Quietly 0 1 s t
+  pub lock_quietly : (kind : LockKind) → Goes (locked kind s) s t → s.holds ≡ None → Quietly 0 (Some kind) s t
   lock_quietly kind goes free =
       record {
         own = (locked kind s).own;
@@ -93,12 +95,13 @@ module _ {s t : ShareState} where
         makes = inr (locked kind s, goes.after, lit≤ tt);
         load = inl (refl, ap (λ c. c.loads) goes.after.counts);
         took = takes_lock kind s.holds t.holds free goes.after.holds;
+        takes = λ k none some. sym goes.after.holds ∙ some;
         stores = refl;
         commits = refl;
         changes = refl;
       }
 
-  pub unlock_quietly : Goes (unlocked_by s) s t → Quietly 0 0 s t
+  pub unlock_quietly : Goes (unlocked_by s) s t → Quietly 0 None s t
   unlock_quietly goes =
       record {
         own = (unlocked_by s).own;
@@ -106,13 +109,14 @@ module _ {s t : ShareState} where
         makes = inr (unlocked_by s, goes.after, lit≤ tt);
         load = inl (refl, ap (λ c. c.loads) goes.after.counts);
         took = gives_lock s.holds t.holds goes.after.holds;
+        takes = λ kind none some. sym goes.after.holds ∙ some;
         stores = refl;
         commits = refl;
         changes = refl;
       }
 
   -- no event, and no load
-  pub none_quietly : (left : Left) → After left s t → left.own ≡ [] → left.counts.loads ≡ s.counts.loads → left.holds ≡ s.holds → Quietly 0 0 s t
+  pub none_quietly : (left : Left) → After left s t → left.own ≡ [] → left.counts.loads ≡ s.counts.loads → left.holds ≡ s.holds → Quietly 0 None s t
   none_quietly left after none loads holds =
       record {
         own = left.own;
@@ -120,13 +124,14 @@ module _ {s t : ShareState} where
         makes = inr (left, after, subst (λ l. length l ≤ 1) (sym none) (lit≤ tt));
         load = inl (refl, ap (λ c. c.loads) after.counts ∙ loads);
         took = keeps_lock s.holds t.holds (after.holds ∙ holds);
+        takes = λ kind none some. sym none ∙ (sym (after.holds ∙ holds) ∙ some);
         stores = ap stores_in none;
         commits = ap commits_of none;
         changes = ap (filter changes_region) none;
       }
 
 -- and no call at all
-pub still : (s : ShareState) → Quietly 0 0 s s
+pub still : (s : ShareState) → Quietly 0 None s s
 still s =
     record {
       own = [];
@@ -134,6 +139,7 @@ still s =
       makes = inl refl;
       load = inl (refl, refl);
       took = keeps_lock s.holds s.holds refl;
+      takes = λ kind none some. sym none ∙ some;
       stores = refl;
       commits = refl;
       changes = refl;
@@ -152,8 +158,9 @@ module _ (who : ℕ) (running : Running) (at : Stage) (result : Step) (new : Wor
       AreStoredBy result new (so_far ++ filter changes_region own)
   as_stored keeps own none so_far are = subst (AreStoredBy result new) (sym (ap (λ l. so_far ++ l) none ∙ append-nil so_far)) (keeps so_far are)
 
-  pub adds_quietly : (loads locks : ℕ) → Quietly loads locks s t → KeepsStored at result new → KeepsMade → Counts running loads 0 locks result new → Adds who running at result new s t
-  adds_quietly loads locks did stored keeps counts =
+  pub adds_quietly : (loads : ℕ) (lock : Option LockKind) → Quietly loads lock s t → KeepsStored at result new → KeepsMade → Counts running loads 0 (locks_taken None lock) result new →
+      Adds who running at result new s t
+  adds_quietly loads lock did stored keeps counts =
       record {
         own = did.own;
         loads = loads;
@@ -194,7 +201,7 @@ module _ (who : ℕ) (o : OpenerState) (running : Running) (at : Stage) (result 
       subst (λ r. AreStoredBy r new.work so_far) (sym is.0) (subst (λ (n : OpenerState). AreStoredBy step.Again n.work so_far) (sym is.1) are)
 
   failed_made : result ≡ step.Stopped why.Fault → KeepsMade who running at result new.work s t
-  failed_made is so_far are = subst (λ r. AreMadeBy who running r new.work so_far) (sym is) (begun_at who running at so_far are)
+  failed_made is so_far are = subst (λ r. AreMadeBy who running r new.work so_far) (sym is) (made_first who running at so_far are)
 
   failed_counts : result ≡ step.Stopped why.Fault → Counts running 0 0 0 result new.work
   failed_counts is = subst (λ r. Counts running 0 0 0 r new.work) (sym is) tt
@@ -212,7 +219,7 @@ module _ (who : ℕ) (o : OpenerState) (running : Running) (at : Stage) (result 
       }
 
   pub stopped_adds : (stop : ShareStop) → AfterStop stop o running at result new → Stops stop s t → Adds who running at result new.work s t
-  stopped_adds Turn after stops = adds_quietly who running at result new.work s t 0 0 (none_quietly (turned_away s) stops.after refl refl refl) (again_stored after) (again_made after) (again_counts after)
+  stopped_adds Turn after stops = adds_quietly who running at result new.work s t 0 None (none_quietly (turned_away s) stops.after refl refl refl) (again_stored after) (again_made after) (again_counts after)
   stopped_adds Failed after stops = died_adds stops after.0
   stopped_adds Memory after stops = absurd stops
   stopped_adds JournalFull after stops = absurd stops
@@ -220,18 +227,18 @@ module _ (who : ℕ) (o : OpenerState) (running : Running) (at : Stage) (result 
   -- a try of a call that has made nothing yet
   pub tried_adds : StoresNothing at → (kind : LockKind) (stop : ShareStop) → ((so_far : List Change) → AreMadeAt who running at so_far → so_far ≡ []) → AfterStop stop o running at result new →
       StopsTrying kind stop s t → Adds who running at result new.work s t
-  tried_adds calm kind Turn nothing after stops = adds_quietly who running at result new.work s t 0 0 (none_quietly (turned_away s) stops.after refl refl refl) (again_stored after) (again_made after) (again_counts after)
+  tried_adds calm kind Turn nothing after stops = adds_quietly who running at result new.work s t 0 None (none_quietly (turned_away s) stops.after refl refl refl) (again_stored after) (again_made after) (again_counts after)
   tried_adds calm kind Failed nothing after stops = died_adds stops after.0
   tried_adds calm kind Memory nothing after stops =
-      adds_quietly who running at result new.work s t 0 0 (none_quietly (unmoved s) stops.0.after refl refl refl) (calm_stored at result new.work calm)
+      adds_quietly who running at result new.work s t 0 None (none_quietly (unmoved s) stops.0.after refl refl refl) (calm_stored at result new.work calm)
       (λ so_far are. subst (λ r. AreMadeBy who running r new.work so_far) (sym after.0) (nothing so_far are)) (subst (λ r. Counts running 0 0 0 r new.work) (sym after.0) tt)
   tried_adds calm kind JournalFull nothing after stops =
-      adds_quietly who running at result new.work s t 0 0 (none_quietly (unmoved s) stops.0.after refl refl refl) (calm_stored at result new.work calm)
+      adds_quietly who running at result new.work s t 0 None (none_quietly (unmoved s) stops.0.after refl refl refl) (calm_stored at result new.work calm)
       (λ so_far are. subst (λ r. AreMadeBy who running r new.work so_far) (sym after.0) (nothing so_far are)) (subst (λ r. Counts running 0 0 0 r new.work) (sym after.0) tt)
 
   pub waits_adds : (holder : ℕ) → Waits running at holder o result new → Goes (refused s) s t → Adds who running at result new.work s t
   waits_adds holder waits goes =
-      adds_quietly who running at result new.work s t 0 0 (none_quietly (refused s) goes.after refl refl refl)
+      adds_quietly who running at result new.work s t 0 None (none_quietly (refused s) goes.after refl refl refl)
       (λ so_far are. subst (λ r. AreStoredBy r new.work so_far) (sym waits.0) (subst (λ (n : OpenerState). AreStored n.work so_far) (sym waits.1) are))
       (λ so_far are. subst (λ r. AreMadeBy who running r new.work so_far) (sym waits.0) (subst (λ (n : OpenerState). AreMade who n.work so_far) (sym waits.1) are))
       (subst (λ r. Counts running 0 0 0 r new.work) (sym waits.0) (subst (λ (n : OpenerState). IsRaisedIn running 0 0 0 n.work) (sym waits.1) (none_more running)))

@@ -176,23 +176,3 @@ begun_tied o new asked now changes s tied built bytes none count next first is =
           })
           tied.told (changes_are s.told changes count);
     })
-
--- an opener that has made no call is tied to a share that holds nothing and whose start, where it is told, is accepted
-pub new_tied : (o : OpenerState) (s : ShareState) → IsSound s → OnTold s.told (λ h. IsAccepted h.start) → o ≡ record { who = s.who; handled = true; image = None; holds = 0; work = Idle } → s.ended ≡ false →
-    s.holds ≡ None → Tied o s
-new_tied o s sound accepted is alive free =
-    let fresh : OpenerState = record { who = s.who; handled = true; image = None; holds = 0; work = Idle } in
-    subst (λ (n : OpenerState). Tied n s) (sym is)
-    (record {
-      who = refl;
-      maker = sound.maker;
-      ended = alive;
-      handled = refl;
-      holds = free;
-      deep = omega arith;
-      sound = tt;
-      at = tt;
-      owes = (sound.unreserved (λ held. let both = sym free ∙ held in absurd cc)).0;
-      told = told_and s.told (Agrees s) (λ h. IsAccepted h.start) (Knows fresh s)
-          (λ h a ok. record { agrees = a; accepted = ok; facts = record { image = tt; rests = λ held. absurd cc; work = tt } }) sound.told accepted;
-    })

@@ -70,7 +70,7 @@ image_later (Some i) start more past l is =
     }
 
 -- a reply at an earlier place stays right
-pub reply_later : (call : Call) (now : ℕ) (reply : Reply) (place : ℕ) (start : Region) (more past : List Event) → place ≤ length (changes_of past) →
+reply_later : (call : Call) (now : ℕ) (reply : Reply) (place : ℕ) (start : Region) (more past : List Event) → place ≤ length (changes_of past) →
     ReplyIs call now reply place start past → ReplyIs call now reply place start (more ++ past)
 reply_later call now reply place start more past within is =
     λ ok apart.
@@ -84,7 +84,7 @@ get_front (x ∷ xs) ys zero c e = e
 get_front (x ∷ xs) ys (suc i) c e = get_front xs ys i c e
 
 -- and so does an own change
-pub change_later : (who : ℕ) (running : Running) (place : ℕ) (more past : List Event) → ChangeIs who running place past → ChangeIs who running place (more ++ past)
+change_later : (who : ℕ) (running : Running) (place : ℕ) (more past : List Event) → ChangeIs who running place past → ChangeIs who running place (more ++ past)
 change_later who running place more past is = go (act_of running.call running.now) is
   where
     go : (act : Option Act) → IfSome act (λ a. slice_get (changes_of past) place ≡ Some (record { maker = who; act = a })) →

@@ -24,9 +24,9 @@ use Rattle.opener.proofs.Stopped.{nothing_told}
 use Rattle.opener.specs.Steps.{Steps}
 use Rattle.opener.proofs.Added.{adds_quietly, unlock_quietly}
 use Rattle.opener.proofs.Adding.{finishes_made, finishes_counts, none_more}
-use Rattle.opener.proofs.EndClauses.{finishes_call}
+use Rattle.opener.proofs.EndClauses.{finishes_call, finishes_carries}
 use Rattle.opener.proofs.Falling.{finishes_falls}
-use Rattle.opener.proofs.StopClauses.{same_call}
+use Rattle.opener.proofs.StopClauses.{same_call, takes_none}
 use Rattle.opener.proofs.Storing.{finishes_stored}
 
 none_or_some : (holds : ℕ) → (0 < holds → ⊥) → holds ≡ 0
@@ -90,10 +90,12 @@ unlocks {o} {running} {how} {result} {new} {s} {t} tied ended goes is count =
     record {
       tied = unlocked_tied o running s t goes how ended result new tied is;
       makes = inr (unlocked_by s, goes.after, lit≤ tt);
-      adds = adds_quietly o.who running (stage.Unlock how) result new.work s t 0 0 (unlock_quietly goes) (finishes_stored running o result new how ended is)
+      adds = adds_quietly o.who running (stage.Unlock how) result new.work s t 0 None (unlock_quietly goes) (finishes_stored running o result new how ended is)
           (λ so_far are. finishes_made o.who running running o result new how ended so_far is are) (finishes_counts o.who running running o result new how ended 0 0 0 is (none_more running));
       call = finishes_call o.who o.holds running running how ended o result new (same_call running) tied.at.1 tied.at.2.1 refl refl is;
       cause = unlocked_cause o running how ended result new s t is;
+      takes = takes_none (Runs running (stage.Unlock how)) s t goes.after.holds;
+      carries = finishes_carries (stage.Unlock how) running how ended o result new s t (λ a. tt) is;
       answer = unlocked_answer o running s t goes how ended result new tied count is;
       falls = finishes_falls running running (stage.Unlock how) how ended o result new t is;
     }

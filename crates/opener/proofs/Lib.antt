@@ -8,6 +8,7 @@ pub mod Ended
 pub mod Falling
 pub mod Followed
 pub mod Holds
+pub mod TriedKinds
 pub mod Leading
 pub mod Leaves
 pub mod Leaving

@@ -43,6 +43,7 @@ use Rattle.opener.proofs.Carry.{told_call, changes_are}
 use Rattle.opener.proofs.Falling.{load_left, plainly_shorter}
 use Rattle.opener.proofs.Leaves.{LeftWith, Leaving}
 use Rattle.opener.proofs.Ready.{ReadyWith}
+use Rattle.opener.proofs.RowEnds.{has_map}
 use Rattle.opener.proofs.Same.{SameLock, loaded_same}
 use Rattle.opener.proofs.StepEnds.{loads_leave, loads_ready}
 use Rattle.opener.specs.Counted.{counted}
@@ -55,10 +56,6 @@ use Rattle.opener.proofs.Stopped.{nothing_told}
 rest_now : (o : OpenerState) (running : Running) (loading : Loading) (start : Region) (past : List Event) (who : ℕ) → Lawful start past → Facts (running_as o running (Load loading)) start past →
     (lock : Option LockKind) → lock_by o.holds running.taken ≡ lock → lock ≢ None → lock_after past who ≡ lock → Apart start past → AtRest start past
 rest_now o running loading start past who l facts lock is some mine apart = rests_locked o running (Load loading) start past who l facts refl lock is some mine apart
-
-has_map : (o : Option Map) → is_some o ≡ true → (m : Map) × (o ≡ Some m)
-has_map None e = absurd cc
-has_map (Some m) e = (m, refl)
 
 -- a whole image has the map of the history
 module _ (start : Region) (past : List Event) (region : IsRegion start) (l : Lawful start past) (rests : Apart start past → AtRest start past) (found : Loaded)
@@ -158,7 +155,7 @@ module _ (o : OpenerState) (running next : Running) (old : Loading) (result : St
   pub stop_steps : (stop : Stop) (ended : ℕ) → MayEnd (end.Stop stop) → HasReason (Runs running (Load old)) stop s t → ended ≡ changes_told t.told →
       Leaves next (end.Stop stop) ended o result new → Steps o running (Load old) result new s t
   stop_steps stop ended may reason count left =
-      loads_leave tied (λ stored none. none) o next (end.Stop stop) ended (leaving o.image tied.sound) goes more tied.at.1 left count refl may reason (λ so_far are. are) (stop_left stop)
+      loads_leave tied (λ stored none. none) o next (end.Stop stop) ended (leaving o.image tied.sound) goes more tied.at.1 tt (λ a. tt) left count refl may reason (λ so_far are. are) (stop_left stop)
       (load_left running next old t (end.Stop stop))
 
   -- the load is done
@@ -206,7 +203,7 @@ module _ (o : OpenerState) (running next : Running) (old : Loading) (result : St
 
         go : (z : Shown) → found.shown ≡ z → Is z → Steps o running (Load old) result new s t
         go (seen.Whole n) e is =
-            loads_ready tied (λ stored none. none) mid next place place found.image (leaving (Some found.image) (sound_load found sound)) goes more tied.at.1 is count refl refl looks_next (λ so_far none. none)
+            loads_ready tied (λ stored none. none) mid next place place found.image (leaving (Some found.image) (sound_load found sound)) goes more tied.at.1 tt (λ how. tt) (λ a. tt) is count refl refl looks_next (λ so_far none. none)
             (whole_ready n e) (plainly_shorter _ _ t refl (λ words. omega arith)) (load_left running next old t)
         go (seen.Header n) e is = stops (seen.Header n) (λ k both. absurd cc) e is
         go (seen.Last n) e is = stops (seen.Last n) (λ k both. absurd cc) e is

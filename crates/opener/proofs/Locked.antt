@@ -24,22 +24,9 @@ use Rattle.opener.specs.declared.work.Stage.{Stage}
 use Rattle.opener.specs.declared.work.Stage.TheVariants.{LockExclusive}
 use Rattle.opener.specs.declared.work.Work.TheVariants.{Runs}
 use Rattle.opener.proofs.Carry.{none_reserved, tied_after, more_changes, image_later, own_if}
+use Rattle.opener.proofs.Reserved.{write_plain}
 use Rattle.opener.proofs.Stages.{locked_rest}
 use Rattle.opener.proofs.Stopped.{nothing_told}
-
--- a write is a plain call
-pub write_plain : (asked : Call) → CanWrite asked → IsPlain asked
-write_plain (call.Get key) can = absurd can
-write_plain (call.Put key value seconds) can = can
-write_plain (call.Remove key) can = can
-write_plain call.Clear can = can
-write_plain call.Keys can = absurd can
-write_plain call.Count can = absurd can
-write_plain (call.Enable seconds) can = absurd can
-write_plain call.Disable can = absurd can
-write_plain call.Hold can = absurd can
-write_plain call.Release can = absurd can
-write_plain call.Sync can = absurd can
 
 -- what a stage that finds the region as it is wants, under an exclusive lock
 record MayNotice (o : OpenerState) (next : Running) (stage : Stage) : Type 0 where

@@ -6,6 +6,7 @@ use Rattle.change_log.specs.History.{reply_in}
 use Rattle.change_log.specs.declared.call.Call.{Call}
 use Rattle.change_log.specs.declared.call.Call.TheVariants as call
 use Rattle.lock_rules.specs.declared.table.LockKind.TheVariants.{Exclusive}
+use Rattle.change_log.specs.declared.call.Answer.{Answer}
 use Rattle.region_words.specs.Region.{Region, IsAccepted, base}
 use Rattle.region_words.specs.Past.{changes_of}
 use Rattle.region_words.specs.Apart.{Apart}
@@ -20,16 +21,18 @@ use Rattle.opener.specs.Continues.{SameCall}
 use Rattle.opener.specs.Ends.{IsReady, IsReadyBy, OnImage, Replies, lock_by}
 use Rattle.opener.specs.Plans.{CanWrite}
 use Rattle.opener.specs.Opener.{IsCalm, Facts, Tied, ImageIs, IsImage, IsShown, LooksUnder, MayEnd, OnAnswer, IsAnswer, HasCause, KeepsCall, running_as, stop_found}
+use Rattle.opener.specs.Steps.{CarriesOut}
 use Rattle.opener.specs.declared.calls.Step.{Step}
+use Rattle.opener.specs.declared.calls.Step.TheVariants as step
 use Rattle.opener.specs.declared.calls.Stop.TheVariants as why
 use Rattle.opener.specs.declared.work.Running.{Running}
 use Rattle.opener.specs.declared.work.End.{End}
 use Rattle.opener.specs.declared.work.End.TheVariants as end
 use Rattle.opener.specs.declared.work.Stage.{Stage}
-use Rattle.opener.specs.declared.work.Stage.TheVariants.{Size}
+use Rattle.opener.specs.declared.work.Stage.TheVariants.{Size, Unlock}
 use Rattle.opener.specs.declared.work.Work.TheVariants.{Runs}
 use Rattle.opener.proofs.Carry.{none_reserved, tied_after}
-use Rattle.opener.proofs.EndClauses.{EndHasReason, going_answer, going_call, going_cause, leaves_call, leaves_cause}
+use Rattle.opener.proofs.EndClauses.{EndHasReason, going_answer, going_call, going_carries, going_cause, leaves_call, leaves_carries, leaves_cause}
 use Rattle.opener.proofs.Leaves.{LeftWith, Leaving, leaves_tied, leaves_answer}
 
 -- a plain call that is a write can be made, and one that isn't changes nothing
@@ -168,3 +171,11 @@ module _ (o mid : OpenerState) (i : Image) (running next : Running) (stage : Sta
       go true write on = going_cause (Runs running stage) next Size mid result new s t refl on
       go false read (how, replies, leaves) =
           leaves_cause (Runs running stage) next how ended mid result new s t none (ends how read (reply_of how replies)).reason leaves
+
+  pub ready_carries : CarriesOut step.Going stage (Runs next Size) s t → ((how : End) → CarriesOut step.Going stage (Runs next (Unlock how)) s t) → ((a : Answer) → CarriesOut (step.Answered a) stage new.work s t) →
+      IsReady next place ended mid result new → CarriesOut result stage new.work s t
+  ready_carries sizes unlocks answers ready = go (is_write next.call) ready
+    where
+      go : (b : Bool) → IsReadyBy b next place ended mid result new → CarriesOut result stage new.work s t
+      go true on = going_carries stage next Size mid result new s t sizes on
+      go false (how, replies, leaves) = leaves_carries stage next how ended mid result new s t (unlocks how) answers leaves

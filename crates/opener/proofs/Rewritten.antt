@@ -24,10 +24,11 @@ use Rattle.opener.specs.declared.work.Running.{Running}
 use Rattle.opener.specs.declared.work.Stage.TheVariants.{Store}
 use Rattle.opener.specs.declared.work.Work.TheVariants.{Runs}
 use Rattle.opener.proofs.AddsBy.{event_goes}
-use Rattle.opener.proofs.EndClauses.{going_call, going_cause, going_answer}
+use Rattle.opener.proofs.EndClauses.{going_answer, going_call, going_carries, going_cause}
 use Rattle.opener.proofs.Falling.{few_stores, going_falls, store_shorter}
 use Rattle.opener.proofs.Followed.{followed_tied}
 use Rattle.opener.proofs.Same.{stored_same}
+use Rattle.opener.proofs.StopClauses.{takes_same}
 use Rattle.opener.proofs.Stored.{commits_on, places_on, stored_tied, with_making}
 use Rattle.opener.proofs.Written.{rewrite_ends, writes}
 
@@ -59,6 +60,8 @@ module _ {o : OpenerState} {running : Running} {plan : Plan} {result : Step} {ne
         adds = event_goes o.who running next plan o result new s t made.0 b.events then made.2 (more ∙ ap (λ l. with_stored (next_of l) running) made.1) commits on;
         call = going_call o.who o.holds running next (Store then) o result new lock.same refl on;
         cause = going_cause (Runs running (Store plan)) next (Store then) o result new s t refl on;
+        takes = takes_same (Runs running (Store plan)) s t made.2.after.holds;
+        carries = going_carries (Store plan) next (Store then) o result new s t (b.events, made, fewer) on;
         answer = going_answer next (Store then) o result new _ on;
         falls = going_falls (Runs running (Store plan)) next (Store then) o result new t (store_shorter running next plan b.events s t made (Store then) (λ words. omega (arith, few_stores words then, fewer))) on;
       }

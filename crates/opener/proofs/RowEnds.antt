@@ -33,7 +33,7 @@ last_is_store start past who (Lock kind) room region ok l is leads = absurd is
 last_is_store start past who Unlock room region ok l is leads = absurd is
 last_is_store start past who (Died torn) room region ok l is leads = absurd is
 
-has_map : (o : Option Map) → is_some o ≡ true → (m : Map) × (o ≡ Some m)
+pub has_map : (o : Option Map) → is_some o ≡ true → (m : Map) × (o ≡ Some m)
 has_map None e = absurd cc
 has_map (Some m) e = (m, refl)
 

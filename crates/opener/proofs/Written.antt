@@ -28,7 +28,7 @@ use Rattle.opener.specs.Ends.{Written}
 use Rattle.opener.specs.Counted.{with_stored}
 use Rattle.opener.specs.Opener.{Tied, Facts, ChangeIs, running_as}
 use Rattle.opener.specs.Plans.{CanWrite, IsSoundImage, events_in}
-use Rattle.opener.specs.Steps.{Steps}
+use Rattle.opener.specs.Steps.{Steps, StoresFirst}
 use Rattle.opener.specs.Writes.{IsRowOf, IsSoundPlan, Leads, PlanLeads, HasMadeSoFar, commits_of, commits_in, first_events, image_after, making_of}
 use Rattle.opener.specs.declared.calls.Step.{Step}
 use Rattle.opener.specs.declared.plan.Plan.{Plan}
@@ -39,7 +39,7 @@ use Rattle.opener.specs.declared.work.End.TheVariants as end
 use Rattle.opener.specs.declared.work.Stage.TheVariants as stage
 use Rattle.opener.specs.declared.work.Work.TheVariants.{Runs}
 use Rattle.opener.proofs.AddsBy.{event_written}
-use Rattle.opener.proofs.EndClauses.{leaves_call, leaves_cause}
+use Rattle.opener.proofs.EndClauses.{leaves_call, leaves_carries, leaves_cause}
 use Rattle.opener.proofs.Falling.{written_falls}
 use Rattle.opener.proofs.Carry.{told_call, changes_are, more_changes}
 use Rattle.opener.proofs.Followed.{RowOver, row_over}
@@ -47,6 +47,7 @@ use Rattle.opener.proofs.Leaves.{LeftWith, Leaving, leaves_tied, leaves_answer}
 use Rattle.opener.proofs.Reserved.{write_plain}
 use Rattle.opener.proofs.RowEnds.{row_ended}
 use Rattle.opener.proofs.Same.{SameLock, stored_same}
+use Rattle.opener.proofs.StopClauses.{takes_same}
 use Rattle.opener.proofs.Stored.{lead_next, made_on}
 
 -- a write makes a change, and is answered that it is done
@@ -190,6 +191,8 @@ module _ (o : OpenerState) (running next : Running) (plan : Plan) (b : Making) (
             (last.commits ∙ ap commits_of only ∙ append-nil (change_of first)) written;
         call = leaves_call o.who o.holds running next how ended mid result new lock.same (write_plain running.call tied.at.1) tt refl refl written;
         cause = leaves_cause (Runs running (stage.Store plan)) next how ended mid result new s t refl tt written;
+        takes = takes_same (Runs running (stage.Store plan)) s t after.holds;
+        carries = let stores : StoresFirst plan 0 s t = (b.events, made, omega (arith, last.many, ap length only)) in leaves_carries (stage.Store plan) next how ended mid result new s t stores (λ a. stores) written;
         answer = leaves_answer mid next t how ended result new count left written;
         falls = written_falls running next plan b.events s t made (image_after b m) ended o result new written;
       }

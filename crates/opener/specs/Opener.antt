@@ -28,7 +28,7 @@ use Rattle.region_words.specs.declared.stops.Peek.{Peek}
 use Rattle.region_words.specs.declared.stops.ShareStop.TheVariants as stop
 use Rattle.loader.specs.Loads.{HasLoaded, is_done}
 use Rattle.loader.specs.declared.loaded.Image.{Image}
-use Rattle.opener.specs.Calls.{IsPlain, holds_after, is_write}
+use Rattle.opener.specs.Calls.{IsPlain, IsTried, holds_after, is_write}
 use Rattle.opener.specs.Continues.{SameCall}
 use Rattle.opener.specs.Ends.{OnImage, lock_by}
 use Rattle.opener.specs.Plans.{CanWrite, IsPlanOf, IsSoundImage, events_in, refusal_of}
@@ -291,7 +291,7 @@ HasNoPlaces _ s t = ⊥
 abbrev pub HasReason : Work → Stop → ShareState → ShareState → Type 0
 HasReason old Fault s t = Fails s t
 HasReason old Memory s t = ⊤
-HasReason old JournalFull s t = ((kind : LockKind) × StopsTrying kind stop.JournalFull s t) ⊎ HasNoPlaces old s t
+HasReason old JournalFull s t = ((kind : LockKind) × IsTried old kind × StopsTrying kind stop.JournalFull s t) ⊎ HasNoPlaces old s t
 HasReason (Runs running stage) why s t = OnTold t.told (λ h. StopIs running why h.start h.past)
 HasReason _ why s t = ⊥
 
@@ -305,6 +305,6 @@ abbrev pub HasCause : Work → Step → Work → ShareState → ShareState → T
 HasCause old step.Idle new s t = t ≡ s
 HasCause old step.Going new s t = IfSome (stop_found new) (λ why. HasReason old why s t)
 HasCause old step.Again new s t = IsTurnedAway s t × (new ≡ old)
-HasCause old (step.Blocked holder) new s t = (kind : LockKind) × Tries kind (Busy holder) s t
+HasCause old (step.Blocked holder) new s t = (kind : LockKind) × IsTried old kind × Tries kind (Busy holder) s t
 HasCause old (step.Answered a) new s t = ⊤
 HasCause old (step.Stopped why) new s t = HasStopped (stop_found old) old why s t

@@ -8,7 +8,7 @@ ghost use Rattle.opener.specs.Opener.{Tied, running_as, HasCause, IsAnswer, Keep
 ghost use Rattle.opener.specs.Bound.{Falls, steps_left};
 ghost use Rattle.opener.specs.Settles.{BeginsSettled, Settles};
 ghost use Rattle.opener.specs.Quiet.{ShowsQuietly};
-ghost use Rattle.opener.specs.Steps.{Steps};
+ghost use Rattle.opener.specs.Steps.{CarriesOut, OnRunning, Steps, TakesTried};
 
 use crate::calls::{NotBegun, Refused, Step, Stop};
 use crate::plan::Plan;
@@ -132,6 +132,8 @@ impl Opener {
         ensures adds { AddsTo self.old.who self.old.work result self.new.work (S.state share.old) (S.state share.new) }
         ensures call { KeepsWork self.old result self.new }
         ensures cause { HasCause self.old.work result self.new.work (S.state share.old) (S.state share.new) }
+        ensures takes { TakesTried self.old.work (S.state share.old) (S.state share.new) }
+        ensures carries { OnRunning self.old.work (λ stage. CarriesOut result stage self.new.work (S.state share.old) (S.state share.new)) }
         ensures answer { OnAnswer result (λ a. OnTold (S.state share.new).told (λ h. IsAnswer a h.start h.past)) }
         ensures falls { Falls self.old.work result self.new.work (S.state share.new) }
         ensures settles { Settles self.old result self.new (S.state share.old) (S.state share.new) }

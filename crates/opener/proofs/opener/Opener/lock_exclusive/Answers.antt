@@ -5,6 +5,7 @@ use Rattle.opener.proofs.Carry.{own_if}
 use Rattle.opener.proofs.Falling.{exclusive_shorter}
 use Rattle.opener.proofs.Locked.{exclusive_tied}
 use Rattle.opener.proofs.Same.{locked_same}
+use Rattle.opener.proofs.TriedKinds.{writes_exclusive}
 use Rattle.opener.proofs.StepEnds.{early, locks_on, stops_trying, waits}
 use Rattle.opener.proofs.opener.Opener.lock_exclusive.Goals as goal
 
@@ -16,14 +17,14 @@ returns-in-Ok-Taken g c =
     let look = c.noticing-stage.ensures in
     let tries = rw c.in-Ok-Taken.field-0-is at c.in-Ok-Taken.ensures.ok in
     let same = locked_same c.args.running next Exclusive c.with_lock-running.ensures in
-    locks_on c.requires (λ stored none. none) o next Exclusive to refl (c.requires.holds ∙ own_if _ _ c.requires.at.2.0 ∙ c.requires.at.2.1) tries c.with_lock-running.ensures c.going.ensures
+    locks_on c.requires (λ stored none. none) o next Exclusive (writes_exclusive _ c.requires.at.1) to refl (c.requires.holds ∙ own_if _ _ c.requires.at.2.0 ∙ c.requires.at.2.1) tries c.with_lock-running.ensures tt c.going.ensures
     (notices_none next o.image o.holds next.taken to look) (λ so_far are. notices_nothing o.who next o.image o.holds next.taken to so_far look are)
     (exclusive_tied o _ next to _ _ c.requires same.0 same.1 tries look) (exclusive_shorter _ next _ o.image o.holds next.taken to look)
 
 pub returns-in-Ok-Busy : goal.returns-in-Ok-Busy
 returns-in-Ok-Busy g c =
-    waits c.requires (early refl (λ stored none. none) (λ so_far none. none) refl) Exclusive _ c.blocked.ensures (rw c.in-Ok-Busy.field-0-is at c.in-Ok-Busy.ensures.ok)
+    waits c.requires (early refl (λ stored none. none) (λ so_far none. none) refl) Exclusive (writes_exclusive _ c.requires.at.1) _ c.blocked.ensures (rw c.in-Ok-Busy.field-0-is at c.in-Ok-Busy.ensures.ok)
 
 pub returns-in-Err : goal.returns-in-Err
 returns-in-Err g c =
-    stops_trying c.requires (early refl (λ stored none. none) (λ so_far none. none) refl) Exclusive c.in-Err.stop c.requires.at.2.1 c.stopped.ensures c.in-Err.ensures.err
+    stops_trying c.requires (early refl (λ stored none. none) (λ so_far none. none) refl) Exclusive (writes_exclusive _ c.requires.at.1) c.in-Err.stop c.requires.at.2.1 c.stopped.ensures c.in-Err.ensures.err

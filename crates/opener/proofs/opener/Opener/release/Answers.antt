@@ -1,5 +1,5 @@
 use Rattle.std.proofs.Common.{◌≡◌, refl, ap, sym, ◌∙◌, arith}
-use Rattle.std.specs.Prelude.{◌-◌}
+use Rattle.std.specs.Prelude.{◌-◌, None}
 use Rattle.opener.specs.State.{OpenerState}
 use Rattle.opener.specs.Calls.{holds_after}
 use Rattle.opener.specs.declared.work.Stage.TheVariants.{Release}
@@ -25,8 +25,8 @@ returns-then-self-gt1 g c =
     let releasing = c.requires.at.1 in
     let same : c.self.inside.holds ≡ o.holds = ap (λ (o : OpenerState). o.holds) c.self.view_is in
     let more = c.if-self-gt1.true in
-    answers_done c.requires (λ stored none. none) running 0 0 (still s) _ _ c.done.ensures (same_call running) (none_more running) (ap (λ n. n - 1) same ∙ sym (ap (λ call. holds_after call o.holds) releasing))
-    (λ so_far are. releases_none o.who running so_far releasing are) (held_so o running _ s c.requires refl _ c.requires.at.2 (omega (arith, more)) (omega (arith, same, c.requires.deep))) (same_answer o running _ s c.requires refl _ (releases_call running.call releasing) c.changes.ensures)
+    answers_done c.requires (λ stored none. none) running 0 None (still s) (λ kind is. absurd cc) _ _ c.done.ensures (same_call running) (none_more running) (ap (λ n. n - 1) same ∙ sym (ap (λ call. holds_after call o.holds) releasing))
+    (λ so_far are. releases_none o.who running so_far releasing are) (λ a. tt) (held_so o running _ s c.requires refl _ c.requires.at.2 (omega (arith, more)) (omega (arith, same, c.requires.deep))) (same_answer o running _ s c.requires refl _ (releases_call running.call releasing) c.changes.ensures)
 
 pub returns-in-Ok : goal.returns-in-Ok
 returns-in-Ok g c =
@@ -34,9 +34,9 @@ returns-in-Ok g c =
     let running = c.args.running in
     let releasing = c.requires.at.1 in
     let last : 0 ≡ o.holds - 1 = omega (arith, c.if-self-gt1.false, ap (λ (o : OpenerState). o.holds) c.self.view_is) in
-    answers_done c.requires (λ stored none. none) running 0 0 (unlock_quietly c.in-Ok.ensures.ok) 0 _ c.done-in-Ok.ensures (same_call running) (none_more running)
+    answers_done c.requires (λ stored none. none) running 0 None (unlock_quietly c.in-Ok.ensures.ok) (λ kind is. absurd cc) 0 _ c.done-in-Ok.ensures (same_call running) (none_more running)
     (last ∙ sym (ap (λ call. holds_after call o.holds) releasing))
-    (λ so_far are. releases_none o.who running so_far releasing are) (released_tied o running _ _ c.in-Ok.ensures.ok c.requires) (last_answer o running _ _ c.in-Ok.ensures.ok c.requires _ c.changes-in-Ok.ensures)
+    (λ so_far are. releases_none o.who running so_far releasing are) (λ a. tt) (released_tied o running _ _ c.in-Ok.ensures.ok c.requires) (last_answer o running _ _ c.in-Ok.ensures.ok c.requires _ c.changes-in-Ok.ensures)
 
 pub returns-in-Err : goal.returns-in-Err
 returns-in-Err g c = stops c.requires c.in-Err.stop c.stopped.ensures c.in-Err.ensures.err
