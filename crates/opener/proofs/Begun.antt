@@ -104,7 +104,7 @@ module _ (o : OpenerState) (now changes : ℕ) (next : Stage) where
   may_notice asked plain write (Some i) e is =
       subst (MayFirst o (begun_at asked now changes)) (sym is)
       (record {
-        at = ((λ some. refl), plain, ((λ none. let both = sym e ∙ none in absurd cc), (λ w. exclusive_if o.holds None (write w))));
+        at = ((λ some. refl), plain, ((λ none. let both = sym e ∙ none in absurd cc), (λ w. exclusive_if o.holds None (write w)), (λ read. refl)));
         calm = refl;
         owes = λ s none. none;
         told = λ start past. tt;

@@ -1,17 +1,18 @@
 -- What a stage's clauses say where its call goes on, or is over.
-use Rattle.std.proofs.Common.{◌≡◌, ℕ, refl, sym, ◌∙◌, subst, ap, inr, lit≤}
+use Rattle.std.proofs.Common.{◌≡◌, ℕ, true, refl, sym, ◌∙◌, subst, ap, inr, lit≤}
 use Rattle.std.specs.Prelude.{Option, Some, None, IfSome, ⊤}
 use Rattle.change_log.specs.declared.call.Answer.{Answer}
 use Rattle.change_log.specs.declared.call.Call.{Call}
 use Rattle.change_log.specs.declared.call.Call.TheVariants as call
 use Rattle.lock_rules.specs.declared.table.LockKind.{LockKind}
 use Rattle.region_words.specs.Share.{ShareState, Goes, loaded}
+use Rattle.loader.specs.declared.loaded.Image.{Image}
 use Rattle.opener.specs.State.{OpenerState}
 use Rattle.opener.specs.Calls.{IsPlain, holds_after}
 use Rattle.opener.specs.Continues.{SameCall}
 use Rattle.opener.specs.Ends.{Finishes, GoesOn, Leaves, LeavesBy, answer_of}
 use Rattle.opener.specs.Opener.{HasCause, HasReason, KeepsCall, MakesOne, MayEnd, OnAnswer, stop_found}
-use Rattle.opener.specs.Steps.{CarriesOut}
+use Rattle.opener.specs.Steps.{CarriesOut, KeepsImage, still_looks}
 use Rattle.opener.specs.declared.calls.Step.{Step}
 use Rattle.opener.specs.declared.calls.Step.TheVariants as step
 use Rattle.opener.specs.declared.calls.Stop.{Stop}
@@ -130,3 +131,9 @@ leaves_carries here next how ended mid result new s t goes answers leaves = go n
     go : (taken : Option LockKind) → LeavesBy taken next how ended mid result new → CarriesOut result here new.work s t
     go None is = finishes_carries here next how ended mid result new s t answers is
     go (Some kind) is = going_carries here next (Unlock how) mid result new s t goes is
+
+-- and the image is kept on
+pub going_image : (here : Stage) (next : Running) (stage : Stage) (mid : OpenerState) (old : Option Image) (result : Step) (new : OpenerState) (t : ShareState) →
+    (still_looks stage ≡ true → (still_looks here ≡ true) × (mid.image ≡ old)) → GoesOn next stage mid result new → KeepsImage result here old new t
+going_image here next stage mid old result new t keeps on =
+    subst (λ r. KeepsImage r here old new t) (sym on.0) (subst (λ (n : OpenerState). KeepsImage step.Going here old n t) (sym on.1) keeps)

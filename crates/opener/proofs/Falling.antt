@@ -100,7 +100,7 @@ pub going_falls : (old : Work) (next : Running) (stage : Stage) (mid : OpenerSta
 going_falls old next stage mid result new t short on =
     subst (λ r. Falls old r new.work t) (sym on.0) (subst (λ (n : OpenerState). Shortens old n.work t) (sym on.1) short)
 
-always_told : (t : Option History) (P : History → Type 0) → ((h : History) → P h) → OnTold t P
+pub always_told : (t : Option History) (P : History → Type 0) → ((h : History) → P h) → OnTold t P
 always_told None P p = tt
 always_told (Some h) P p = p h
 

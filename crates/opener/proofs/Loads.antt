@@ -31,7 +31,7 @@ use Rattle.opener.specs.State.{OpenerState}
 use Rattle.opener.specs.Calls.{IsPlain}
 use Rattle.opener.specs.Ends.{IsLoaded, IsLoadedBy, Leaves, OnImage, lock_by, stop_of}
 use Rattle.opener.specs.Plans.{IsSoundImage}
-use Rattle.opener.specs.Opener.{Tied, Facts, IsImage, IsShown, HasReason, LooksUnder, MayEnd, running_as}
+use Rattle.opener.specs.Opener.{Tied, Facts, IsImage, IsLastPlace, IsShown, HasReason, KeepsWords, LooksUnder, MatchesRegion, MayEnd, running_as}
 use Rattle.opener.specs.declared.calls.Step.{Step}
 use Rattle.opener.specs.declared.calls.Stop.{Stop}
 use Rattle.opener.specs.declared.calls.Stop.TheVariants as why
@@ -43,7 +43,7 @@ use Rattle.opener.proofs.Carry.{told_call, changes_are}
 use Rattle.opener.proofs.Falling.{load_left, plainly_shorter}
 use Rattle.opener.proofs.Leaves.{LeftWith, Leaving}
 use Rattle.opener.proofs.Ready.{ReadyWith}
-use Rattle.opener.proofs.RowEnds.{has_map}
+use Rattle.opener.proofs.RowEnds.{has_map, whole_matches}
 use Rattle.opener.proofs.Same.{SameLock, loaded_same}
 use Rattle.opener.proofs.StepEnds.{loads_leave, loads_ready}
 use Rattle.opener.specs.Counted.{counted}
@@ -83,6 +83,9 @@ module _ (start : Region) (past : List Event) (region : IsRegion start) (l : Law
 
   file_is : found.image.standing.file_size ≡ file_size r
   file_is = ap (λ (s : Standing). s.file_size) size_is
+
+  matches_is : MatchesRegion (Some found.image) start past
+  matches_is = whole_matches found.image start past n shows (ap (λ (s : Standing). s.checksum) size_is) (ap (λ (s : Standing). s.sequence) size_is)
 
   history : IsAccepted start → Apart start past → found.image.map ≡ map_after start past
   history ok apart = map_is ∙ whole_history start past n mapped.0 (main_law start past region ok l apart (rests apart)) shows mapped.1
@@ -141,13 +144,14 @@ module _ (o : OpenerState) (running next : Running) (old : Loading) (result : St
         plain = subst IsPlain (sym same.same.call) tied.at.1;
       }
 
-  stop_left : (stop : Stop) → OnTold t.told (λ k. LeftWith o next (end.Stop stop) k.start k.past)
+  stop_left : (stop : Stop) → OnTold t.told (λ k. LeftWith None o next (end.Stop stop) k.start k.past)
   stop_left stop =
-      told_call (running_as o running (Load old)) s t (loaded s) (λ start past. ⊤) (LeftWith o next (end.Stop stop)) tied goes.after (nothing_told t.told)
+      told_call (running_as o running (Load old)) s t (loaded s) (λ start past. ⊤) (LeftWith None o next (end.Stop stop)) tied goes.after (nothing_told t.told)
       (λ start past region lawful mine facts e. record {
         begun = omega (arith, same.same.begun, facts.work.0);
         image = facts.image;
         end_is = tt;
+        ends = tt;
         rests = λ held apart. facts.rests (lock ∙ held) refl apart;
       })
 
@@ -155,7 +159,7 @@ module _ (o : OpenerState) (running next : Running) (old : Loading) (result : St
   pub stop_steps : (stop : Stop) (ended : ℕ) → MayEnd (end.Stop stop) → HasReason (Runs running (Load old)) stop s t → ended ≡ changes_told t.told →
       Leaves next (end.Stop stop) ended o result new → Steps o running (Load old) result new s t
   stop_steps stop ended may reason count left =
-      loads_leave tied (λ stored none. none) o next (end.Stop stop) ended (leaving o.image tied.sound) goes more tied.at.1 tt (λ a. tt) left count refl may reason (λ so_far are. are) (stop_left stop)
+      loads_leave tied (λ stored none. none) o next (end.Stop stop) ended (leaving o.image tied.sound) goes more tied.at.1 tt (λ a. tt) left count refl may reason (λ so_far are. are) (λ looks. absurd cc) (stop_left stop)
       (load_left running next old t (end.Stop stop))
 
   -- the load is done
@@ -163,14 +167,14 @@ module _ (o : OpenerState) (running next : Running) (old : Loading) (result : St
     abbrev mid : OpenerState
     mid = record o { image = Some found.image }
 
-    whole_ready : (n : ℕ) → found.shown ≡ seen.Whole n → OnTold t.told (λ k. ReadyWith mid found.image next place k.start k.past)
+    whole_ready : (n : ℕ) → found.shown ≡ seen.Whole n → OnTold t.told (λ k. ReadyWith None mid found.image next place k.start k.past)
     whole_ready n whole =
         told_call (running_as o running (Load old)) s t (loaded s) (λ start past. IsLoadOf found (region_after start past) × (place ≡ length (changes_of past)))
-        (ReadyWith mid found.image next place) tied goes.after (told_and t.told _ _ _ (λ h p q. (p, q)) told (changes_are t.told place count))
+        (ReadyWith None mid found.image next place) tied goes.after (told_and t.told _ _ _ (λ h p q. (p, q)) told (changes_are t.told place count))
         (λ start past region lawful mine facts e. go start past region lawful facts (rest_now o running old start past s.who lawful facts (lock_by o.holds running.taken) refl tied.at.2.1 (mine ∙ tied.holds)) e)
       where
         go : (start : Region) (past : List Event) → IsRegion start → Lawful start past → Facts (running_as o running (Load old)) start past → (Apart start past → AtRest start past) →
-            IsLoadOf found (region_after start past) × (place ≡ length (changes_of past)) → ReadyWith mid found.image next place start past
+            IsLoadOf found (region_after start past) × (place ≡ length (changes_of past)) → ReadyWith None mid found.image next place start past
         go start past region lawful facts rests e =
             record {
               begun = omega (arith, same.same.begun, facts.work.0, e.1);
@@ -178,6 +182,8 @@ module _ (o : OpenerState) (running next : Running) (old : Loading) (result : St
               image = image_is start past region lawful rests found e.0 n whole;
               found = λ ok apart. history start past region lawful rests found e.0 n whole ok apart ∙ ap (replay (base start)) (sym (take_all place (changes_of past) (omega (arith, e.1))));
               now = λ write ok apart. shown_is start past region lawful rests found e.0 n whole ok apart;
+              ends = λ reply read.
+                  subst (λ w. IsLastPlace w place (length (changes_of past)) × KeepsWords w (Some found.image) start past) (sym read) (e.1, matches_is start past region lawful rests found e.0 n whole);
               rests = λ held apart. facts.rests (ap (lock_by o.holds) (sym same.taken) ∙ held) refl apart;
             }
 
@@ -203,7 +209,7 @@ module _ (o : OpenerState) (running next : Running) (old : Loading) (result : St
 
         go : (z : Shown) → found.shown ≡ z → Is z → Steps o running (Load old) result new s t
         go (seen.Whole n) e is =
-            loads_ready tied (λ stored none. none) mid next place place found.image (leaving (Some found.image) (sound_load found sound)) goes more tied.at.1 tt (λ how. tt) (λ a. tt) is count refl refl looks_next (λ so_far none. none)
+            loads_ready tied (λ stored none. none) mid next place place found.image (leaving (Some found.image) (sound_load found sound)) goes more tied.at.1 tt (λ how. tt) (λ a. tt) is count refl refl looks_next (λ so_far none. none) (λ looks. absurd cc)
             (whole_ready n e) (plainly_shorter _ _ t refl (λ words. omega arith)) (load_left running next old t)
         go (seen.Header n) e is = stops (seen.Header n) (λ k both. absurd cc) e is
         go (seen.Last n) e is = stops (seen.Last n) (λ k both. absurd cc) e is

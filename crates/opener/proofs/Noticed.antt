@@ -131,13 +131,13 @@ module _ (o : OpenerState) (running next : Running) (peek : Peek) (s t : ShareSt
 
   -- the kept image is the region's
   pub current_ready : (sequence : ℕ) (c : IsCurrent o.image peek sequence) → OnTold t.told (λ h. sequence ≡ sequence_at h.start h.past) →
-      OnTold t.told (λ k. ReadyWith o c.i next peek.changes k.start k.past)
+      OnTold t.told (λ k. ReadyWith (Some peek) o c.i next peek.changes k.start k.past)
   current_ready sequence c told =
-      told_call (running_as o running (PeekSequence peek)) s t (loaded s) (λ start past. sequence ≡ sequence_at start past) (ReadyWith o c.i next peek.changes) tied goes.after told
+      told_call (running_as o running (PeekSequence peek)) s t (loaded s) (λ start past. sequence ≡ sequence_at start past) (ReadyWith (Some peek) o c.i next peek.changes) tied goes.after told
       (λ start past region lawful mine facts e. go start past region lawful facts e)
     where
       go : (start : Region) (past : List Event) → IsRegion start → Lawful start past → Facts (running_as o running (PeekSequence peek)) start past → sequence ≡ sequence_at start past →
-          ReadyWith o c.i next peek.changes start past
+          ReadyWith (Some peek) o c.i next peek.changes start past
       go start past region lawful facts e =
           let w = facts.work.1.0 in
           let image : ImageIs (Some c.i) start past = subst (λ z. ImageIs z start past) c.kept facts.image in
@@ -151,6 +151,7 @@ module _ (o : OpenerState) (running next : Running) (peek : Peek) (s t : ShareSt
             now = λ write ok apart.
                 let held = lock ∙ looks_next write in
                 shown_now c.i start past region lawful apart (None, facts.rests held refl apart) (image.shown ok apart) (c.checksum ∙ facts.work.1.1 held) (c.sequence_is ∙ e);
+            ends = λ reply read. (refl, same.taken ∙ tied.at.2.2 (ap is_write (sym same.same.call) ∙ read));
             rests = λ mine apart. facts.rests (lock ∙ mine) refl apart;
           }
 

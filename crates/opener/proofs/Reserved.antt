@@ -15,7 +15,7 @@ use Rattle.region_words.specs.declared.event.What.{What}
 use Rattle.region_words.specs.declared.event.What.TheVariants.{Store, Grow, Lock, Unlock, Died}
 use Rattle.region_words.proofs.Telling.{told_and}
 use Rattle.opener.specs.State.{OpenerState}
-use Rattle.opener.specs.Calls.{IsPlain}
+use Rattle.opener.specs.Calls.{IsPlain, is_write}
 use Rattle.opener.specs.Counted.{counted}
 use Rattle.opener.specs.Opener.{Tied, PlanIs, running_as}
 use Rattle.opener.specs.Plans.{CanWrite, events_in, room_in}
@@ -120,10 +120,10 @@ module _ (o : OpenerState) (running : Running) (plan : Plan) (s t : ShareState) 
     unreserved_leaving plain =
         record { left = unmoved s; after = goes.after; alive = refl; lock = refl; places = tied.owes; who = refl; handled = refl; holds = refl; sound = tied.sound; taken = refl; plain = plain }
 
-    pub unreserved_left : (why : Stop) → OnTold t.told (λ k. LeftWith o running (end.Stop why) k.start k.past)
+    pub unreserved_left : (why : Stop) → OnTold t.told (λ k. LeftWith None o running (end.Stop why) k.start k.past)
     unreserved_left why =
-        told_call (running_as o running (stage.Reserve plan)) s t (unmoved s) (λ start past. ⊤) (LeftWith o running (end.Stop why)) tied goes.after (nothing_told t.told)
-        (λ start past region lawful lock facts e. record { begun = facts.work.0; image = facts.image; end_is = tt; rests = λ held. facts.rests held refl })
+        told_call (running_as o running (stage.Reserve plan)) s t (unmoved s) (λ start past. ⊤) (LeftWith None o running (end.Stop why)) tied goes.after (nothing_told t.told)
+        (λ start past region lawful lock facts e. record { begun = facts.work.0; image = facts.image; end_is = tt; ends = tt; rests = λ held. facts.rests held refl })
 
     -- the plan is still the one that the call makes
     pub unreserved_plan : OnTold t.told (λ k. PlanIs s.who running plan k.start k.past)
@@ -152,3 +152,16 @@ write_plain call.Disable can = absurd can
 write_plain call.Hold can = absurd can
 write_plain call.Release can = absurd can
 write_plain call.Sync can = absurd can
+
+pub is_written : (asked : Call) → CanWrite asked → is_write asked ≡ true
+is_written (call.Put key value seconds) can = refl
+is_written (call.Remove key) can = refl
+is_written call.Clear can = refl
+is_written (call.Get key) can = absurd can
+is_written call.Keys can = absurd can
+is_written call.Count can = absurd can
+is_written (call.Enable seconds) can = absurd can
+is_written call.Disable can = absurd can
+is_written call.Hold can = absurd can
+is_written call.Release can = absurd can
+is_written call.Sync can = absurd can

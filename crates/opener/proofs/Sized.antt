@@ -186,11 +186,11 @@ module _ (o : OpenerState) (running next : Running) (size : ℕ) (s t : ShareSta
           plain = can_plain next.call (subst CanWrite (sym same.call) tied.at.1);
         }
 
-    pub refused_left : OnTold t.told (λ k. LeftWith given next (end.Stop stop) k.start k.past)
+    pub refused_left : OnTold t.told (λ k. LeftWith None given next (end.Stop stop) k.start k.past)
     refused_left =
-        told_call (running_as o running Size) s t (loaded s) (λ start past. ⊤) (LeftWith given next (end.Stop stop)) tied goes.after (nothing_told t.told)
+        told_call (running_as o running Size) s t (loaded s) (λ start past. ⊤) (LeftWith None given next (end.Stop stop)) tied goes.after (nothing_told t.told)
         (λ start past region lawful lock_is facts e.
-        record { begun = omega (arith, same.begun, facts.work.0); image = tt; end_is = tt; rests = λ held apart. facts.rests (lock ∙ held) refl apart })
+        record { begun = omega (arith, same.begun, facts.work.0); image = tt; end_is = tt; ends = tt; rests = λ held apart. facts.rests (lock ∙ held) refl apart })
 
     -- the reason is found
     abbrev IsFound : Region → List Event → Type 0

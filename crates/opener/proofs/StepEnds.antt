@@ -1,5 +1,5 @@
 -- How a step ends: its call on the share was not answered, it waits, goes on, or leaves.
-use Rattle.std.proofs.Common.{◌≡◌, ℕ, ◌+◌, List, [], refl, sym, ◌∙◌, subst, ap, inr, lit≤, false}
+use Rattle.std.proofs.Common.{◌≡◌, ℕ, ◌+◌, List, [], refl, sym, ◌∙◌, subst, ap, inr, lit≤, true, false}
 use Rattle.std.specs.Prelude.{Option, Some, None}
 use Rattle.change_log.specs.Settled.{AreOfCall}
 use Rattle.change_log.specs.declared.call.Answer.{Answer}
@@ -15,12 +15,12 @@ use Rattle.loader.specs.declared.loaded.Image.{Image}
 use Rattle.opener.specs.State.{OpenerState}
 use Rattle.opener.specs.Adds.{AreMadeAt, IsRaised, locks_taken}
 use Rattle.opener.specs.Bound.{Shortens}
-use Rattle.opener.specs.Calls.{AfterStop, IsPlain, IsTried, holds_after}
+use Rattle.opener.specs.Calls.{AfterStop, IsPlain, IsTried, holds_after, is_write}
 use Rattle.opener.specs.Continues.{SameCall}
 use Rattle.opener.specs.Counted.{counted}
 use Rattle.opener.specs.Ends.{answer_of, GoesOn, IsDone, IsReady, Leaves, Waits, lock_by}
 use Rattle.opener.specs.Opener.{Tied, HasCause, IsAnswer, LooksUnder, KeepsCall, MayEnd, OnAnswer, is_storing, running_as, stop_found}
-use Rattle.opener.specs.Steps.{CarriesOut, Steps}
+use Rattle.opener.specs.Steps.{CarriesOut, IsKeptBy, IsPlaceOf, KeepsImage, Steps, answers_by_look, peek_of, still_looks}
 use Rattle.opener.specs.declared.calls.Step.{Step}
 use Rattle.opener.specs.declared.calls.Step.TheVariants as step
 use Rattle.opener.specs.declared.work.Running.{Running}
@@ -30,13 +30,13 @@ use Rattle.opener.specs.declared.work.Stage.TheVariants.{Size, Unlock}
 use Rattle.opener.specs.declared.work.Work.TheVariants.{Idle, Runs}
 use Rattle.opener.proofs.Added.{Quietly, adds_quietly, load_quietly, lock_quietly, stopped_adds, tried_adds, waits_adds}
 use Rattle.opener.proofs.Adding.{done_counts, done_made, going_counts, going_made, leaves_counts, leaves_made, load_more, lock_more, ready_counts, ready_made}
-use Rattle.opener.proofs.EndClauses.{EndHasReason, going_answer, going_call, going_carries, going_cause, leaves_call, leaves_carries, leaves_cause, loads_once}
-use Rattle.opener.proofs.Falling.{blocked_falls, done_falls, going_falls, leaves_falls, ready_falls, stopped_falls}
-use Rattle.opener.proofs.Leaves.{LeftWith, Leaving, leaves_answer, leaves_tied}
-use Rattle.opener.proofs.Ready.{ReadyWith, ready_answer, ready_call, ready_carries, ready_cause, ready_tied}
+use Rattle.opener.proofs.EndClauses.{EndHasReason, going_answer, going_call, going_carries, going_cause, going_image, leaves_call, leaves_carries, leaves_cause, loads_once}
+use Rattle.opener.proofs.Falling.{always_told, blocked_falls, done_falls, going_falls, leaves_falls, ready_falls, stopped_falls}
+use Rattle.opener.proofs.Leaves.{LeftWith, Leaving, leaves_answer, leaves_image, leaves_place, leaves_tied}
+use Rattle.opener.proofs.Ready.{ReadyWith, ready_answer, ready_call, ready_carries, ready_cause, ready_image, ready_place, ready_tied}
 use Rattle.opener.proofs.Same.{loaded_same, locked_same}
 use Rattle.opener.proofs.Stages.{busy_tied}
-use Rattle.opener.proofs.StopClauses.{failed_stops, same_call, stopped_answer, stopped_call, stopped_carries, stopped_cause, stopped_makes, stopped_takes, takes_same, tried_cause, tried_makes, tried_takes}
+use Rattle.opener.proofs.StopClauses.{failed_stops, same_call, stopped_answer, stopped_call, stopped_carries, stopped_cause, stopped_image, stopped_makes, stopped_takes, takes_same, tried_cause, tried_makes, tried_takes}
 use Rattle.opener.proofs.Stopped.{stopped_tied, tried_tied}
 use Rattle.opener.proofs.Storing.{StoresNothing, calm_stored}
 
@@ -69,6 +69,8 @@ module _ {o : OpenerState} {running : Running} {stage : Stage} {result : Step} {
         takes = stopped_takes (Runs running stage) stop s t why;
         carries = stopped_carries stop o running stage result new s t after;
         answer = stopped_answer stop o running stage result new _ after;
+        place = stopped_answer stop o running stage result new _ after;
+        image = stopped_image stop o running stage result new t after;
         falls = stopped_falls stop o running stage result new t after;
       }
 
@@ -89,6 +91,8 @@ module _ {o : OpenerState} {running : Running} {stage : Stage} {result : Step} {
         takes = tried_takes (Runs running stage) kind stop s t why;
         carries = stopped_carries stop o running stage result new s t after;
         answer = stopped_answer stop o running stage result new _ after;
+        place = stopped_answer stop o running stage result new _ after;
+        image = stopped_image stop o running stage result new t after;
         falls = stopped_falls stop o running stage result new t after;
       }
 
@@ -105,15 +109,17 @@ module _ {o : OpenerState} {running : Running} {stage : Stage} {result : Step} {
         takes = takes_same (Runs running stage) s t tries.0.after.holds;
         carries = subst (λ r. CarriesOut r stage new.work s t) (sym on.0) tt;
         answer = subst (λ r. OnAnswer r (λ a. OnTold t.told (λ h. IsAnswer a h.start h.past))) (sym on.0) tt;
+        place = subst (λ r. OnAnswer r (λ a. OnTold t.told (λ h. IsPlaceOf (peek_of stage) a))) (sym on.0) tt;
+        image = subst (λ r. KeepsImage r stage o.image new t) (sym on.0) (ap (λ (n : OpenerState). n.image) on.1);
         falls = blocked_falls running stage holder o result new t on;
       }
 
   -- a hold or a release is answered
   pub answers_done : StoresNothing stage → (next : Running) (loads : ℕ) (lock : Option LockKind) → Quietly loads lock s t → ((kind : LockKind) → lock ≡ Some kind → IsTried (Runs running stage) kind) → (holds place : ℕ) → IsDone next holds place o result new → SameCall running next →
       IsRaised running loads 0 (locks_taken None lock) next.loads next.stores next.locks → holds ≡ holds_after running.call o.holds →
-      ((so_far : List Change) → AreMadeAt o.who running stage so_far → AreOfCall o.who running.call running.now so_far) → ((a : Answer) → CarriesOut (step.Answered a) stage new.work s t) →
+      ((so_far : List Change) → AreMadeAt o.who running stage so_far → AreOfCall o.who running.call running.now so_far) → ((a : Answer) → CarriesOut (step.Answered a) stage new.work s t) → answers_by_look stage ≡ true → IsPlaceOf (peek_of stage) (answer_of o.who next place place Done) →
       Tied (record o { holds = holds; work = Idle }) t → OnTold t.told (λ h. IsAnswer (answer_of o.who next place place Done) h.start h.past) → Steps o running stage result new s t
-  answers_done calm next loads lock did tried holds place done same more left made carried then answer =
+  answers_done calm next loads lock did tried holds place done same more left made carried looks at then answer =
       record {
         tied = subst (λ (n : OpenerState). Tied n t) (sym done.1) then;
         makes = did.makes;
@@ -128,15 +134,19 @@ module _ {o : OpenerState} {running : Running} {stage : Stage} {result : Step} {
         takes = λ kind none some. tried kind (did.takes kind none some);
         carries = subst (λ r. CarriesOut r stage new.work s t) (sym done.0) (carried (answer_of o.who next place place Done));
         answer = subst (λ r. OnAnswer r (λ a. OnTold t.told (λ h. IsAnswer a h.start h.past))) (sym done.0) answer;
+        place = subst (λ r. OnAnswer r (λ a. OnTold t.told (λ h. IsPlaceOf (peek_of stage) a))) (sym done.0) (always_told t.told (λ h. IsPlaceOf (peek_of stage) (answer_of o.who next place place Done)) (λ h. at));
+        image = subst (λ r. KeepsImage r stage o.image new t) (sym done.0)
+            (subst (λ (n : OpenerState). KeepsImage (step.Answered (answer_of o.who next place place Done)) stage o.image n t) (sym done.1)
+            (subst (λ b. IsKeptBy b (is_write next.call) o.image o.image t) (sym looks) refl));
         falls = done_falls running next stage holds place o result new t done;
       }
 
   module _ (calm : StoresNothing stage) (mid : OpenerState) (next : Running) where
     -- the call goes on
     pub goes_on : (loads : ℕ) (lock : Option LockKind) → Quietly loads lock s t → ((kind : LockKind) → lock ≡ Some kind → IsTried (Runs running stage) kind) → (to : Stage) → mid.holds ≡ o.holds → SameCall running next →
-        IsRaised running loads 0 (locks_taken None lock) next.loads next.stores next.locks → CarriesOut step.Going stage (Runs next to) s t → GoesOn next to mid result new → stop_found (Runs next to) ≡ None → ((so_far : List Change) → AreMadeAt o.who running stage so_far → AreMadeAt o.who next to so_far) →
-        Tied (running_as mid next to) t → Shortens (Runs running stage) (Runs next to) t → Steps o running stage result new s t
-    goes_on loads lock did tried to holds same more carried on none made then short =
+        IsRaised running loads 0 (locks_taken None lock) next.loads next.stores next.locks → CarriesOut step.Going stage (Runs next to) s t → (still_looks to ≡ true → (still_looks stage ≡ true) × (mid.image ≡ o.image)) → GoesOn next to mid result new → stop_found (Runs next to) ≡ None →
+        ((so_far : List Change) → AreMadeAt o.who running stage so_far → AreMadeAt o.who next to so_far) → Tied (running_as mid next to) t → Shortens (Runs running stage) (Runs next to) t → Steps o running stage result new s t
+    goes_on loads lock did tried to holds same more carried keeps on none made then short =
         record {
           tied = subst (λ (n : OpenerState). Tied n t) (sym on.1) then;
           makes = did.makes;
@@ -147,6 +157,8 @@ module _ {o : OpenerState} {running : Running} {stage : Stage} {result : Step} {
           takes = λ kind none some. tried kind (did.takes kind none some);
           carries = going_carries stage next to mid result new s t carried on;
           answer = going_answer next to mid result new _ on;
+          place = going_answer next to mid result new _ on;
+          image = going_image stage next to mid o.image result new t keeps on;
           falls = going_falls (Runs running stage) next to mid result new t short on;
         }
 
@@ -154,8 +166,8 @@ module _ {o : OpenerState} {running : Running} {stage : Stage} {result : Step} {
     pub leaves : (loads : ℕ) → Quietly loads None s t → (how : End) (ended : ℕ) → Leaving o mid running next s t → SameCall running next → IsPlain running.call →
         IsRaised running loads 0 0 next.loads next.stores next.locks → CarriesOut step.Going stage (Runs next (Unlock how)) s t → ((a : Answer) → CarriesOut (step.Answered a) stage new.work s t) → Leaves next how ended mid result new → ended ≡ changes_told t.told → stop_found (Runs running stage) ≡ None → MayEnd how →
         EndHasReason (Runs running stage) how s t → ((so_far : List Change) → AreMadeAt o.who running stage so_far → AreMadeAt o.who running (Unlock how) so_far) →
-        OnTold t.told (λ k. LeftWith mid next how k.start k.past) → Shortens (Runs running stage) (Runs next (Unlock how)) t → Steps o running stage result new s t
-    leaves loads did how ended is same plain more goes answers left count none may reason made told short =
+        (answers_by_look stage ≡ true → mid.image ≡ o.image) → OnTold t.told (λ k. LeftWith (peek_of stage) mid next how k.start k.past) → Shortens (Runs running stage) (Runs next (Unlock how)) t → Steps o running stage result new s t
+    leaves loads did how ended is same plain more goes answers left count none may reason made keeps told short =
         record {
           tied = leaves_tied o mid running next stage s t tied is how ended result new may told left;
           makes = did.makes;
@@ -165,40 +177,42 @@ module _ {o : OpenerState} {running : Running} {stage : Stage} {result : Step} {
           cause = leaves_cause (Runs running stage) next how ended mid result new s t none reason left;
           takes = λ kind none some. absurd (no_kind (did.takes kind none some));
           carries = leaves_carries stage next how ended mid result new s t goes answers left;
-          answer = leaves_answer mid next t how ended result new count told left;
+          answer = leaves_answer (peek_of stage) mid next t how ended result new count told left;
+          place = leaves_place (peek_of stage) mid next t how ended result new count told left;
+          image = leaves_image stage mid next o.image t how ended result new keeps told left;
           falls = leaves_falls running next stage how ended mid result new t short left;
         }
 
     -- a load was made, and the call goes on
     pub loads_on : (to : Stage) → mid.holds ≡ o.holds → Goes (loaded s) s t → next ≡ record running { loads = counted (running.loads + 1) } →
-        CarriesOut step.Going stage (Runs next to) s t → GoesOn next to mid result new → stop_found (Runs next to) ≡ None → ((so_far : List Change) → AreMadeAt o.who running stage so_far → AreMadeAt o.who next to so_far) →
+        CarriesOut step.Going stage (Runs next to) s t → (still_looks to ≡ true → (still_looks stage ≡ true) × (mid.image ≡ o.image)) → GoesOn next to mid result new → stop_found (Runs next to) ≡ None → ((so_far : List Change) → AreMadeAt o.who running stage so_far → AreMadeAt o.who next to so_far) →
         Tied (running_as mid next to) t → Shortens (Runs running stage) (Runs next to) t → Steps o running stage result new s t
-    loads_on to holds goes more carried on none made then short =
-        goes_on 1 None (load_quietly goes) (λ kind some. absurd (no_kind some)) to holds (loaded_same running next more).same (load_more running next more) carried on none made then short
+    loads_on to holds goes more carried keeps on none made then short =
+        goes_on 1 None (load_quietly goes) (λ kind some. absurd (no_kind some)) to holds (loaded_same running next more).same (load_more running next more) carried keeps on none made then short
 
     -- a lock was taken, and the call goes on
     pub locks_on : (kind : LockKind) → IsTried (Runs running stage) kind → (to : Stage) → mid.holds ≡ o.holds → s.holds ≡ None → Tries kind Taken s t → next ≡ record running { taken = Some kind; locks = counted (running.locks + 1) } →
-        CarriesOut step.Going stage (Runs next to) s t → GoesOn next to mid result new → stop_found (Runs next to) ≡ None → ((so_far : List Change) → AreMadeAt o.who running stage so_far → AreMadeAt o.who next to so_far) →
+        CarriesOut step.Going stage (Runs next to) s t → (still_looks to ≡ true → (still_looks stage ≡ true) × (mid.image ≡ o.image)) → GoesOn next to mid result new → stop_found (Runs next to) ≡ None → ((so_far : List Change) → AreMadeAt o.who running stage so_far → AreMadeAt o.who next to so_far) →
         Tied (running_as mid next to) t → Shortens (Runs running stage) (Runs next to) t → Steps o running stage result new s t
-    locks_on kind tried to holds free tries more carried on none made then short =
-        goes_on 0 (Some kind) (lock_quietly kind tries.0 free) (λ k is. tried ∙ is) to holds (locked_same running next kind more).0 (lock_more kind running next more) carried on none made then short
+    locks_on kind tried to holds free tries more carried keeps on none made then short =
+        goes_on 0 (Some kind) (lock_quietly kind tries.0 free) (λ k is. tried ∙ is) to holds (locked_same running next kind more).0 (lock_more kind running next more) carried keeps on none made then short
 
     -- a load was made, and the call leaves
     pub loads_leave : (how : End) (ended : ℕ) → Leaving o mid running next s t → Goes (loaded s) s t → next ≡ record running { loads = counted (running.loads + 1) } → IsPlain running.call →
         CarriesOut step.Going stage (Runs next (Unlock how)) s t → ((a : Answer) → CarriesOut (step.Answered a) stage new.work s t) → Leaves next how ended mid result new → ended ≡ changes_told t.told → stop_found (Runs running stage) ≡ None → MayEnd how → EndHasReason (Runs running stage) how s t →
         ((so_far : List Change) → AreMadeAt o.who running stage so_far → AreMadeAt o.who running (Unlock how) so_far) →
-        OnTold t.told (λ k. LeftWith mid next how k.start k.past) → Shortens (Runs running stage) (Runs next (Unlock how)) t → Steps o running stage result new s t
-    loads_leave how ended is goes more plain going answers left count none may reason made told short =
-        leaves 1 (load_quietly goes) how ended is (loaded_same running next more).same plain (load_more running next more) going answers left count none may reason made told short
+        (answers_by_look stage ≡ true → mid.image ≡ o.image) → OnTold t.told (λ k. LeftWith (peek_of stage) mid next how k.start k.past) → Shortens (Runs running stage) (Runs next (Unlock how)) t → Steps o running stage result new s t
+    loads_leave how ended is goes more plain going answers left count none may reason made keeps told short =
+        leaves 1 (load_quietly goes) how ended is (loaded_same running next more).same plain (load_more running next more) going answers left count none may reason made keeps told short
 
     -- the last load of an image that is kept from now on
     pub loads_ready : (place ended : ℕ) (i : Image) → Leaving o mid running next s t → Goes (loaded s) s t → next ≡ record running { loads = counted (running.loads + 1) } → IsPlain running.call →
         CarriesOut step.Going stage (Runs next Size) s t → ((how : End) → CarriesOut step.Going stage (Runs next (Unlock how)) s t) → ((a : Answer) → CarriesOut (step.Answered a) stage new.work s t) →
         IsReady next place ended mid result new → ended ≡ changes_told t.told → stop_found (Runs running stage) ≡ None → mid.image ≡ Some i →
         LooksUnder next (lock_by mid.holds next.taken) → ((so_far : List Change) → AreMadeAt o.who running stage so_far → so_far ≡ []) →
-        OnTold t.told (λ k. ReadyWith mid i next place k.start k.past) →
+        (answers_by_look stage ≡ true → mid.image ≡ o.image) → OnTold t.told (λ k. ReadyWith (peek_of stage) mid i next place k.start k.past) →
         Shortens (Runs running stage) (Runs next Size) t → ((how : End) → Shortens (Runs running stage) (Runs next (Unlock how)) t) → Steps o running stage result new s t
-    loads_ready place ended i is goes more plain sizes unlocks answers ready count none kept looks made told size unlock =
+    loads_ready place ended i is goes more plain sizes unlocks answers ready count none kept looks made keeps told size unlock =
         let same = (loaded_same running next more).same in
         record {
           tied = ready_tied o mid i running next stage place ended result new s t tied is kept same looks told ready;
@@ -211,5 +225,7 @@ module _ {o : OpenerState} {running : Running} {stage : Stage} {result : Step} {
           takes = takes_same (Runs running stage) s t goes.after.holds;
           carries = ready_carries o mid i running next stage place ended result new s t tied is kept same looks told sizes unlocks answers ready;
           answer = ready_answer o mid i running next stage place ended result new s t tied is kept same looks told count ready;
+          place = ready_place o mid i running next stage place ended result new s t tied is kept same looks told count ready;
+          image = ready_image o mid i running next stage place ended result new s t tied is kept same looks told keeps ready;
           falls = ready_falls running next stage place ended mid result new t size unlock ready;
         }

@@ -9,7 +9,7 @@ use Rattle.region_words.specs.declared.stops.ShareStop.TheVariants.{Failed, Turn
 use Rattle.opener.specs.State.{OpenerState}
 use Rattle.opener.specs.Calls.{AfterStop, IsTried}
 use Rattle.opener.specs.Continues.{SameCall}
-use Rattle.opener.specs.Steps.{CarriesOut, TakesTried}
+use Rattle.opener.specs.Steps.{CarriesOut, KeepsImage, TakesTried}
 use Rattle.opener.specs.Opener.{HasCause, HasReason, HasStopped, KeepsCall, MakesOne, OnAnswer, stop_found}
 use Rattle.opener.specs.declared.calls.Step.{Step}
 use Rattle.opener.specs.declared.calls.Step.TheVariants as step
@@ -119,3 +119,11 @@ stopped_carries Turn o running stage result new s t after = subst (λ r. Carries
 stopped_carries Failed o running stage result new s t after = subst (λ r. CarriesOut r stage new.work s t) (sym after.0) tt
 stopped_carries Memory o running stage result new s t after = subst (λ r. CarriesOut r stage new.work s t) (sym after.0) tt
 stopped_carries JournalFull o running stage result new s t after = subst (λ r. CarriesOut r stage new.work s t) (sym after.0) tt
+
+-- what waits keeps its image, and what stops keeps none
+pub stopped_image : (stop : ShareStop) (o : OpenerState) (running : Running) (stage : Stage) (result : Step) (new : OpenerState) (t : ShareState) → AfterStop stop o running stage result new →
+    KeepsImage result stage o.image new t
+stopped_image Turn o running stage result new t after = subst (λ r. KeepsImage r stage o.image new t) (sym after.0) (ap (λ (n : OpenerState). n.image) after.1)
+stopped_image Failed o running stage result new t after = subst (λ r. KeepsImage r stage o.image new t) (sym after.0) after.4
+stopped_image Memory o running stage result new t after = subst (λ r. KeepsImage r stage o.image new t) (sym after.0) after.1.3
+stopped_image JournalFull o running stage result new t after = subst (λ r. KeepsImage r stage o.image new t) (sym after.0) after.1.3

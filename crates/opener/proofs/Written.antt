@@ -26,7 +26,7 @@ use Rattle.region_words.proofs.Telling.{told_and}
 use Rattle.opener.specs.State.{OpenerState}
 use Rattle.opener.specs.Ends.{Written}
 use Rattle.opener.specs.Counted.{with_stored}
-use Rattle.opener.specs.Opener.{Tied, Facts, ChangeIs, running_as}
+use Rattle.opener.specs.Opener.{Tied, Facts, ChangeIs, IsLastPlace, KeepsWords, running_as}
 use Rattle.opener.specs.Plans.{CanWrite, IsSoundImage, events_in}
 use Rattle.opener.specs.Steps.{Steps, StoresFirst}
 use Rattle.opener.specs.Writes.{IsRowOf, IsSoundPlan, Leads, PlanLeads, HasMadeSoFar, commits_of, commits_in, first_events, image_after, making_of}
@@ -43,9 +43,9 @@ use Rattle.opener.proofs.EndClauses.{leaves_call, leaves_carries, leaves_cause}
 use Rattle.opener.proofs.Falling.{written_falls}
 use Rattle.opener.proofs.Carry.{told_call, changes_are, more_changes}
 use Rattle.opener.proofs.Followed.{RowOver, row_over}
-use Rattle.opener.proofs.Leaves.{LeftWith, Leaving, leaves_tied, leaves_answer}
-use Rattle.opener.proofs.Reserved.{write_plain}
-use Rattle.opener.proofs.RowEnds.{row_ended}
+use Rattle.opener.proofs.Leaves.{LeftWith, Leaving, leaves_answer, leaves_image, leaves_place, leaves_tied}
+use Rattle.opener.proofs.Reserved.{is_written, write_plain}
+use Rattle.opener.proofs.RowEnds.{row_ended, row_is_shown, shown_matches}
 use Rattle.opener.proofs.Same.{SameLock, stored_same}
 use Rattle.opener.proofs.StopClauses.{takes_same}
 use Rattle.opener.proofs.Stored.{lead_next, made_on}
@@ -85,7 +85,7 @@ get_behind (x ∷ front) behind (suc i) k e = get_behind front behind i k (omega
 -- the call's own change is the last, and was made since it began
 pub own_is_last : (who ended : ℕ) (next : Running) (past : List Event) (before made : List Change) → changes_of past ≡ before ++ made → next.begun ≤ length before →
     AreOfCall who next.call next.now made → CanWrite next.call → ended ≡ length (changes_of past) →
-    (next.begun ≤ ended - 1) × (ended - 1 ≤ length (changes_of past)) × ChangeIs who next (ended - 1) past
+    (next.begun ≤ ended - 1) × (ended - 1 ≤ length (changes_of past)) × ChangeIs who next (ended - 1) past × (ended - 1 + 1 ≡ length (changes_of past))
 own_is_last who ended next past before made are begun all can count =
     let deed = write_act next.call next.now can in
     let last = last_of who next.now deed.0 made (subst (λ o. AreOfAct who next.now o made) deed.1 all) in
@@ -94,6 +94,7 @@ own_is_last who ended next past before made are begun all can count =
       omega (arith, count),
       subst (λ o. IfSome o (λ a. slice_get (changes_of past) (ended - 1) ≡ Some (record { maker = who; act = a }))) (sym deed.1)
           (ap (λ l. slice_get l (ended - 1)) are ∙ get_behind before made (ended - 1) last.0 (omega (arith, count, long, last.1)) ∙ last.2),
+      omega (arith, count, long, last.1),
     )
 
 -- no row is to come after the first of this plan, which leads to this map
@@ -142,7 +143,7 @@ module _ (o : OpenerState) (running next : Running) (plan : Plan) (b : Making) (
   over = row_over row first s t (subst (λ l. IsOwing row l s) only tied.owes.owing) after (subst (λ l. IsOwing row l t) done (owing row tied.owes.owing))
 
   at_end : (start : Region) (past : List Event) → IsRegion start → Lawful start (event_of s.who first ∷ past) → Facts (running_as o running (stage.Store plan)) start past →
-      RowOver t.who row first start (event_of s.who first ∷ past) × (ended ≡ length (changes_of (event_of s.who first ∷ past))) → LeftWith mid next how start (event_of s.who first ∷ past)
+      RowOver t.who row first start (event_of s.who first ∷ past) × (ended ≡ length (changes_of (event_of s.who first ∷ past))) → LeftWith None mid next how start (event_of s.who first ∷ past)
   at_end start past region lawful facts (e, counted) =
       let later = event_of s.who first ∷ past in
       let so_far : HasMadeSoFar o.who next (Append b m) later = made_on o.who running next lock.same b first plan (Append b m) past s.who (last.commits ∙ ap commits_of made.1) facts.work.1.1 in
@@ -152,12 +153,18 @@ module _ (o : OpenerState) (running next : Running) (plan : Plan) (b : Making) (
         begun = omega (arith, lock.same.begun, facts.work.0, more_changes (event_of s.who first ∷ []) past);
         image = row_ended start past s.who first region lawful e.1 (room_of row) e.0 b m done (lead_next (making_of plan) b m start past s.who first made.1 stands (last.leads start past facts.work.1.0));
         end_is = (own.0, own.1, (λ ok apart. write_reply next.call _ next.now can_next), own.2);
+        ends = subst (λ w. IsLastPlace w (ended - 1) (length (changes_of later)) × KeepsWords w (Some (image_after b m)) start later) (sym (is_written next.call can_next)) (
+          own.3,
+          λ ok apart.
+              shown_matches (image_after b m) start later
+              (row_is_shown start past s.who first region lawful e.1 (room_of row) e.0 b m done (lead_next (making_of plan) b m start past s.who first made.1 stands (last.leads start past facts.work.1.0)) ok apart),
+        );
         rests = λ held apart. subst (λ room. Reaches start later (Between room)) (last.calm row tied.owes.row_is) (e.0 apart);
       }
 
-  left : OnTold t.told (λ k. LeftWith mid next how k.start k.past)
+  left : OnTold t.told (λ k. LeftWith None mid next how k.start k.past)
   left =
-      told_call (running_as o running (stage.Store plan)) s t (stored first s) (λ start past. RowOver t.who row first start past × (ended ≡ length (changes_of past))) (LeftWith mid next how) tied after
+      told_call (running_as o running (stage.Store plan)) s t (stored first s) (λ start past. RowOver t.who row first start past × (ended ≡ length (changes_of past))) (LeftWith None mid next how) tied after
       (told_and t.told (λ k. RowOver t.who row first k.start k.past) (λ k. ended ≡ length (changes_of k.past)) _ (λ k p q. (p, q)) over (changes_are t.told ended count))
       (λ start past region lawful mine facts e. at_end start past region lawful facts e)
 
@@ -193,6 +200,8 @@ module _ (o : OpenerState) (running next : Running) (plan : Plan) (b : Making) (
         cause = leaves_cause (Runs running (stage.Store plan)) next how ended mid result new s t refl tt written;
         takes = takes_same (Runs running (stage.Store plan)) s t after.holds;
         carries = let stores : StoresFirst plan 0 s t = (b.events, made, omega (arith, last.many, ap length only)) in leaves_carries (stage.Store plan) next how ended mid result new s t stores (λ a. stores) written;
-        answer = leaves_answer mid next t how ended result new count left written;
+        answer = leaves_answer None mid next t how ended result new count left written;
+        place = leaves_place None mid next t how ended result new count left written;
+        image = leaves_image (stage.Store plan) mid next o.image t how ended result new (λ looks. absurd cc) left written;
         falls = written_falls running next plan b.events s t made (image_after b m) ended o result new written;
       }

@@ -8,7 +8,7 @@ ghost use Rattle.opener.specs.Opener.{Tied, running_as, HasCause, IsAnswer, Keep
 ghost use Rattle.opener.specs.Bound.{Falls, steps_left};
 ghost use Rattle.opener.specs.Settles.{BeginsSettled, Settles};
 ghost use Rattle.opener.specs.Quiet.{ShowsQuietly};
-ghost use Rattle.opener.specs.Steps.{CarriesOut, OnRunning, Steps, TakesTried};
+ghost use Rattle.opener.specs.Steps.{CarriesOut, IsPlaceOf, KeepsImage, OnRunning, Steps, TakesTried, peek_of};
 
 use crate::calls::{NotBegun, Refused, Step, Stop};
 use crate::plan::Plan;
@@ -135,6 +135,8 @@ impl Opener {
         ensures takes { TakesTried self.old.work (S.state share.old) (S.state share.new) }
         ensures carries { OnRunning self.old.work (λ stage. CarriesOut result stage self.new.work (S.state share.old) (S.state share.new)) }
         ensures answer { OnAnswer result (λ a. OnTold (S.state share.new).told (λ h. IsAnswer a h.start h.past)) }
+        ensures place { OnRunning self.old.work (λ stage. OnAnswer result (λ a. OnTold (S.state share.new).told (λ h. IsPlaceOf (peek_of stage) a))) }
+        ensures image { OnRunning self.old.work (λ stage. KeepsImage result stage self.old.image self.new (S.state share.new)) }
         ensures falls { Falls self.old.work result self.new.work (S.state share.new) }
         ensures settles { Settles self.old result self.new (S.state share.old) (S.state share.new) }
         ensures quiet { ShowsQuietly self.new.who self.new.work (S.state share.new) }

@@ -19,7 +19,7 @@ returns-in-Ok-Going g c =
     let o = c.args.self.now in
     let did = c.in-Ok-Going.ensures in
     let same = loaded_same c.args.running _ c.with_load.ensures in
-    loads_on c.requires (λ stored none. none) o _ (Load c.step.new.self) refl did.goes c.with_load.ensures tt c.going.ensures refl (λ so_far are. are)
+    loads_on c.requires (λ stored none. none) o _ (Load c.step.new.self) refl did.goes c.with_load.ensures tt (λ looks. (refl, refl)) c.going.ensures refl (λ so_far are. are)
     (loaded_tied o _ _ c.args.loading _ _ _ c.requires same.same same.taken (rw c.in-Ok-Going.field-0-is at did.done) did.goes did.told)
     (load_shorter _ _ _ _ _ did.loads did.bound did.answered)
 

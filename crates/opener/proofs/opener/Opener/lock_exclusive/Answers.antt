@@ -17,7 +17,7 @@ returns-in-Ok-Taken g c =
     let look = c.noticing-stage.ensures in
     let tries = rw c.in-Ok-Taken.field-0-is at c.in-Ok-Taken.ensures.ok in
     let same = locked_same c.args.running next Exclusive c.with_lock-running.ensures in
-    locks_on c.requires (λ stored none. none) o next Exclusive (writes_exclusive _ c.requires.at.1) to refl (c.requires.holds ∙ own_if _ _ c.requires.at.2.0 ∙ c.requires.at.2.1) tries c.with_lock-running.ensures tt c.going.ensures
+    locks_on c.requires (λ stored none. none) o next Exclusive (writes_exclusive _ c.requires.at.1) to refl (c.requires.holds ∙ own_if _ _ c.requires.at.2.0 ∙ c.requires.at.2.1) tries c.with_lock-running.ensures tt (λ looks. (refl, refl)) c.going.ensures
     (notices_none next o.image o.holds next.taken to look) (λ so_far are. notices_nothing o.who next o.image o.holds next.taken to so_far look are)
     (exclusive_tied o _ next to _ _ c.requires same.0 same.1 tries look) (exclusive_shorter _ next _ o.image o.holds next.taken to look)
 

@@ -12,7 +12,7 @@ returns-then-is_current g c =
     let same = loaded_same c.args.running _ c.with_load.ensures in
     let cur = current_is o.image c.args.peek c.in-Ok.sequence (sym c.if-is_current.ensures) in
     loads_ready c.requires (λ stored none. none) o _ _ _ cur.i (peeked_leaving o _ _ _ _ _ c.requires same c.in-Ok.ensures.ok) c.in-Ok.ensures.ok c.with_load.ensures c.requires.at.1
-    tt (λ how. tt) (λ a. tt) c.ready.ensures c.changes.ensures refl cur.kept (looks_next o _ _ _ _ _ c.requires same c.in-Ok.ensures.ok) (λ so_far none. none)
+    tt (λ how. tt) (λ a. tt) c.ready.ensures c.changes.ensures refl cur.kept (looks_next o _ _ _ _ _ c.requires same c.in-Ok.ensures.ok) (λ so_far none. none) (λ looks. refl)
     (current_ready o _ _ _ _ _ c.requires same c.in-Ok.ensures.ok _ cur c.in-Ok.ensures.value)
     (plainly_shorter _ _ _ refl (λ words. omega arith)) (λ how. plainly_shorter _ _ _ refl (λ words. omega arith))
 
@@ -22,7 +22,7 @@ returns-else-is_current g c =
     let next = c.with_load-in-Ok.result in
     let to = c.reading-stage.result in
     let same = loaded_same c.args.running next c.with_load-in-Ok.ensures in
-    loads_on c.requires (λ stored none. none) o next to refl c.in-Ok.ensures.ok c.with_load-in-Ok.ensures tt c.going.ensures
+    loads_on c.requires (λ stored none. none) o next to refl c.in-Ok.ensures.ok c.with_load-in-Ok.ensures tt (λ looks. (refl, refl)) c.going.ensures
     (reads_none next o.holds c.args.running.taken to c.reading-stage.ensures)
     (λ so_far are. reads_nothing o.who next o.holds c.args.running.taken to so_far c.reading-stage.ensures are)
     (reading_then o _ next _ _ _ c.requires same c.in-Ok.ensures.ok to c.reading-stage.ensures)
