@@ -208,7 +208,7 @@ item_packs flag n m i le g h p = go (length i.value == 0) refl
     go true z q d e = p q d (removed (eq_by_cmp order q i.key) q d (sym (fin.get-remove nat_list_cmp_total m i.key q) ∙ e))
     go false some q d e = put q d some (eq_by_cmp order q i.key) refl (sym (fin.get-insert nat_list_cmp_total m i.key (unstored flag i.value) q) ∙ e)
 
-items_pack : (flag : Bool) (n : ℕ) (items : List Item) (m : Map) → n ≤ largest → AllFit flag n items → Packable flag m → Packable flag (with_items flag m items)
+pub items_pack : (flag : Bool) (n : ℕ) (items : List Item) (m : Map) → n ≤ largest → AllFit flag n items → Packable flag m → Packable flag (with_items flag m items)
 items_pack flag n [] m le g p = p
 items_pack flag n (i ∷ items) m le g p = items_pack flag n items (with_item flag m i) le g.2 (item_packs flag n m i le g.0 g.1 p)
 

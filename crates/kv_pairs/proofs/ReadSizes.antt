@@ -1,5 +1,5 @@
 -- The map of a payload takes, packed, no more bytes than the payload and four.
-use Rattle.std.proofs.Common.{◌≡◌, ℕ, zero, suc, ◌+◌, ◌-◌, ◌*◌, ◌/◌, ◌%◌, ◌<◌, ◌≤◌, Bool, true, false, cond, List, [], ◌∷◌, ◌++◌, length, take, drop, refl, ap, arith, length-append, length-take, length-drop}
+use Rattle.std.proofs.Common.{◌≡◌, ℕ, zero, suc, ◌+◌, ◌-◌, ◌*◌, ◌/◌, ◌%◌, ◌<◌, ◌≤◌, Bool, true, false, cond, List, [], ◌∷◌, ◌++◌, length, take, drop, refl, ap, subst, arith, length-append, length-take, length-drop}
 use Rattle.std.specs.Prelude.{Option, Some, None, option_and_then, option_map, nat_lt, nat_le, ◌==◌, ◌&&◌, ◌||◌}
 use Rattle.std.specs.Option.{option_map_or}
 use Rattle.std.specs.List.{list_all}
@@ -10,12 +10,13 @@ use Rattle.expiring_map.specs.Map.{Map}
 use Rattle.kv_pairs.specs.Growth.{largest}
 use Rattle.kv_pairs.specs.Lengths.{shortest, shortest_in}
 use Rattle.kv_pairs.specs.Reading.{number_in, length_at, bytes_at, text_at, unit_at, units_in, units_at, read_payload}
-use Rattle.kv_pairs.specs.Mapped.{stored, unstored, with_item, with_items, has_room_for_expiry, map_of, map_in, length_prefixed, packed_size}
-use Rattle.kv_pairs.specs.Fits.{FitsIn}
+use Rattle.kv_pairs.specs.Mapped.{stored, unstored, with_item, with_items, has_room_for_expiry, first_without_room, map_of, map_in, length_prefixed, packed_size}
+use Rattle.kv_pairs.specs.Fits.{FitsIn, FitsWithMore}
 use Rattle.kv_pairs.specs.declared.item.Item.{Item}
 use Rattle.kv_pairs.proofs.GrammarRead.{Small}
-use Rattle.kv_pairs.proofs.Packing.{read_packs}
-use Rattle.kv_pairs.proofs.Packables.{to_packable}
+use Rattle.kv_pairs.proofs.GoodItems.{Small-from, AllGood, units_fine, fit_all}
+use Rattle.kv_pairs.proofs.Packing.{items_pack, read_packs}
+use Rattle.kv_pairs.proofs.Packables.{to_packable, from_packable}
 use Rattle.kv_pairs.proofs.PackedSizes.{put_fits, removed_fits, empty_size}
 
 -- A number's shortest spelling is no longer than the one it was read from.
@@ -178,3 +179,25 @@ read_fits flag bytes m s le e = record { pairs = to_packable flag m (read_packs 
     whole : (b : Bool) → option_and_then (map_of flag) (cond b (Some (read_payload bytes).0) None) ≡ Some m → packed_size flag m ≤ length bytes + 4
     whole true f = fits (list_all (has_room_for_expiry flag) (read_payload bytes).0) refl f
     whole false f = absurd cc
+
+-- and so a map with the items of more bytes
+all_have_room : (flag : Bool) (items : List Item) → first_without_room flag items ≡ None → list_all (has_room_for_expiry flag) items ≡ true
+all_have_room flag [] e = refl
+all_have_room flag (i ∷ items) e = go (has_room_for_expiry flag i) (first_without_room flag items) e (λ n. all_have_room flag items n)
+  where
+    go : (b : Bool) (o : Option ℕ) → cond b (option_map (λ place. place + 1) o) (Some 0) ≡ None → (o ≡ None → list_all (has_room_for_expiry flag) items ≡ true) →
+        (b && list_all (has_room_for_expiry flag) items) ≡ true
+    go true None e more = more refl
+    go true (Some n) e more = absurd cc
+    go false o e more = absurd cc
+
+pub more_fit : FitsWithMore
+more_fit flag m room bytes items f b le e room_for =
+    let all = all_have_room flag items room_for in
+    let read : (units_at bytes).0 ≡ items = ap (λ u. u.0) e in
+    let good = subst (AllGood (length bytes)) read (units_fine (length bytes) (length bytes) bytes (Small-from bytes b, omega arith)) in
+    let held = subst (λ items. all_bytes items ≤ length bytes) read (units_held (length bytes) bytes) in
+    record {
+      pairs = to_packable flag (with_items flag m items) (items_pack flag (length bytes) items m le (fit_all flag (length bytes) items good all) (from_packable flag m f.pairs));
+      size = omega (arith, items_fit flag items m all, f.size, held);
+    }

@@ -1,22 +1,23 @@
 // How far a data file grows for a rewrite.
 ghost use Rattle.std.specs.Prelude.{◌≡◌, ◌+◌, ◌*◌, ◌^◌, ◌<◌, ◌≤◌, ◌↔◌, IsNone};
+ghost use Rattle.kv_pairs.specs.declared.growth.TheConstants.{LARGEST_FILE};
 ghost use Rattle.kv_pairs.specs.Growth.{grown_size, grown_to, IsFileSize};
 
-// The greatest size of a data file.
-const LARGEST: u64 = 1 << 26;
+/// The greatest size of a data file in bytes, 2^26.
+pub const LARGEST_FILE: u64 = 67_108_864;
 
 /// The size in bytes of a file that has this size, for a rewrite to packed pairs of so many bytes, with so
-/// many bytes to append. None where the greatest size, 2^26, doesn't do.
+/// many bytes to append. None where `LARGEST_FILE` doesn't do.
 pub fn grown_size(packed: u64, need: u64, pairs: u64, file: u32) -> Option<u32>
     requires packed { packed ≤ 2 ^ 30 }
     requires need { need ≤ 2 ^ 30 }
     requires pairs { pairs ≤ 2 ^ 30 }
     requires file { IsFileSize file }
     ensures value { result ≡ grown_size packed need pairs file }
-    ensures none { IsNone result ↔ (2 ^ 26 < 4 + packed + need) }
+    ensures none { IsNone result ↔ (LARGEST_FILE < 4 + packed + need) }
 {
     let needs = 4 + packed + need;
-    if needs > LARGEST {
+    if needs > LARGEST_FILE {
         return None;
     }
     let spare = needs / pairs.max(1) * ((pairs + 1) / 2).max(8);
@@ -27,12 +28,12 @@ pub fn grown_size(packed: u64, need: u64, pairs: u64, file: u32) -> Option<u32>
 fn doubled(file: u64, wanted: u64) -> u64
     requires { IsFileSize file }
     ensures value { result ≡ grown_to wanted file }
-    ensures most { result ≤ 2 ^ 26 }
+    ensures most { result ≤ LARGEST_FILE }
 {
     let mut size = file;
     while size <= wanted {
-        if 2 * size > LARGEST {
-            return LARGEST;
+        if 2 * size > LARGEST_FILE {
+            return LARGEST_FILE;
         }
         size *= 2;
     }

@@ -6,12 +6,18 @@ ghost use Rattle.expiring_map.specs.Map.{Map};
 ghost use Rattle.expiring_map.specs.Live.{live_part};
 ghost use Rattle.kv_pairs.specs.Growth.{largest};
 ghost use Rattle.kv_pairs.specs.Mapped.{put_item, packed_size, map_in, IsSmall};
-ghost use Rattle.kv_pairs.specs.Fits.{FitsIn};
+ghost use Rattle.kv_pairs.specs.Fits.{FitsIn, FitsWithMore};
 
 /// The map of a payload fits in as many bytes and four more: the heading takes four, and no spelling of a length is
 /// shorter than the one that is written.
 pub fn a_map_that_is_read_fits()
     ensures { (flag : Bool) (bytes : List ℕ) (m : Map) → All (λ b. b < 256) bytes → length bytes ≤ largest → map_in flag bytes ≡ Some m → FitsIn flag m (length bytes + 4) }
+{}
+
+/// A map that fits in some bytes, and into which the items of more bytes come, as `decode_from` reads them and `extend`
+/// brings them in, fits in all of these bytes: a map that is kept can be continued behind its payload.
+pub fn a_map_with_more_items_fits()
+    ensures { FitsWithMore }
 {}
 
 /// A pair that is put adds its item at most, a key or pairs that go add nothing, and the empty map is the heading alone.

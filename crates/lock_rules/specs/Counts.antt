@@ -1,6 +1,6 @@
 -- How often an opener asked for each kind of lock.
 use Rattle.std.specs.Prelude.{ℕ, ◌+◌, ◌-◌, ◌≤◌, ◌||◌, ◌==◌, nat_lt, if◌then◌else◌}
-use Rattle.lock_rules.specs.declared.counts.TheConstants.{MOST_HOLDS}
+use Rattle.lock_rules.specs.declared.limits.TheConstants.{DEEPEST_COUNT}
 use Rattle.lock_rules.specs.declared.counts.Ask.{Ask}
 use Rattle.lock_rules.specs.declared.counts.Ask.TheVariants as ask
 use Rattle.lock_rules.specs.declared.counts.Leave.{Leave}
@@ -22,8 +22,8 @@ count_of counts Exclusive = counts.exclusive
 
 -- no count is above its limit
 pub record IsWithin (counts : Counts) : Type 0 where
-  pub shared : counts.shared ≤ MOST_HOLDS
-  pub exclusive : counts.exclusive ≤ MOST_HOLDS
+  pub shared : counts.shared ≤ DEEPEST_COUNT
+  pub exclusive : counts.exclusive ≤ DEEPEST_COUNT
 
 -- the counts with one more hold of this kind
 abbrev pub counted_up : Counts → LockKind → Counts
@@ -42,7 +42,7 @@ asked_of counts Exclusive = if nat_lt 0 counts.exclusive then ask.Counted else (
 
 -- what is to be done for one more hold of this kind
 abbrev pub ask_of : Counts → LockKind → Ask
-ask_of counts kind = if count_of counts kind == MOST_HOLDS then ask.TooDeep else asked_of counts kind
+ask_of counts kind = if count_of counts kind == DEEPEST_COUNT then ask.TooDeep else asked_of counts kind
 
 -- what is to be done where these counts are left
 abbrev pub left_of : Counts → LockKind → Leave

@@ -1,14 +1,12 @@
 // How often an opener has asked for the lock, by kind.
 ghost use Rattle.std.specs.Prelude.{◌≡◌, ◌<◌};
-ghost use Rattle.lock_rules.specs.declared.counts.TheConstants.{MOST_HOLDS};
+ghost use Rattle.lock_rules.specs.declared.limits.TheConstants.{DEEPEST_COUNT};
 ghost use Rattle.lock_rules.specs.Counts.{IsWithin, none_counted, count_of, counted_up, counted_down, ask_of, left_of, leave_of};
 ghost use Rattle.lock_rules.specs.Steps.{AsksAs, TookAs, LeavesAs};
 
+use crate::limits::DEEPEST_COUNT;
 use crate::table::LockKind;
 use std::marker::Model;
-
-/// The most holds of one kind that may stand at once.
-pub const MOST_HOLDS: u32 = 1024;
 
 /// What is to be done for one more hold.
 #[derive(Clone, Copy, Debug, PartialEq, Eq)]
@@ -46,13 +44,13 @@ pub struct LockCounts {
 impl Model for LockCounts {
     ghost use Rattle.std.specs.Prelude.{◌≤◌};
     ghost use Rattle.lock_rules.specs.Counts.{Counts};
-    ghost use Rattle.lock_rules.specs.declared.counts.TheConstants.{MOST_HOLDS};
+    ghost use Rattle.lock_rules.specs.declared.limits.TheConstants.{DEEPEST_COUNT};
 
     ghost Value = { Counts };
 
     ghost view = { λ c. record { shared = c.shared; exclusive = c.exclusive } };
 
-    ghost invariant = { λ c. (c.shared ≤ MOST_HOLDS) × (c.exclusive ≤ MOST_HOLDS) };
+    ghost invariant = { λ c. (c.shared ≤ DEEPEST_COUNT) × (c.exclusive ≤ DEEPEST_COUNT) };
 
     ghost inverse = { λ c. record { shared = c.shared; exclusive = c.exclusive } };
 }
@@ -86,7 +84,7 @@ impl LockCounts {
         ensures step { AsksAs self.now kind result }
         ensures within { IsWithin self.now }
     {
-        if self.count(kind) == MOST_HOLDS {
+        if self.count(kind) == DEEPEST_COUNT {
             return Ask::TooDeep;
         }
         match kind {
@@ -99,7 +97,7 @@ impl LockCounts {
 
     /// Counts one more hold of this kind.
     pub fn took(&mut self, kind: LockKind)
-        requires { count_of self.old kind < MOST_HOLDS }
+        requires { count_of self.old kind < DEEPEST_COUNT }
         ensures after { self.new ≡ counted_up self.old kind }
         ensures step { TookAs self.old kind self.new }
         ensures within { IsWithin self.new }

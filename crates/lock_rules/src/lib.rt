@@ -3,8 +3,10 @@
 
 mod counts;
 mod laws;
+mod limits;
 mod table;
 
-pub use counts::{Ask, Leave, LockCounts, MOST_HOLDS};
+pub use counts::{Ask, Leave, LockCounts};
 pub use laws::an_opener_holds_what_it_counts;
+pub use limits::{DEEPEST_COUNT, MOST_HOLDS, MOST_OPENERS};
 pub use table::{LockKind, LockTable, Tried};

@@ -2,8 +2,10 @@
 ghost use Rattle.std.specs.Prelude.{◌≡◌, ◌↔◌, ℕ, ◌<◌, ◌≤◌, false, true, IfSome, IfNone};
 ghost use Rattle.lock_rules.specs.Locks.{IsSound, holds, unlocked, MayTake, with_lock, without_holder, IsLeastAgainst};
 ghost use Rattle.lock_rules.specs.Holders.{AreHolders, holders_of};
+ghost use Rattle.lock_rules.specs.declared.limits.TheConstants.{MOST_OPENERS};
 ghost use Rattle.std.specs.FinSet as set;
 
+use crate::limits::MOST_OPENERS;
 use std::marker::Model;
 
 /// The two kinds of lock.
@@ -20,7 +22,7 @@ pub enum Tried {
     Busy(u32),
 }
 
-/// The holders, numbers 1 to 64.
+/// The holders, numbers 1 to `MOST_OPENERS`.
 #[derive(Drop)]
 pub struct LockTable {
     // bit h - 1 says whether h holds shared
@@ -57,7 +59,7 @@ impl LockTable {
     /// Takes the lock for an opener that holds nothing, unless another stands against it.
     pub fn try_take(&mut self, who: u32, kind: LockKind) -> Tried
         requires least { 1 ≤ who }
-        requires most { who ≤ 64 }
+        requires most { who ≤ MOST_OPENERS }
         requires free { holds self.old who ≡ false }
 
         ensures taken { (result ≡ Tried.Taken) ↔ MayTake self.old who kind }
@@ -122,7 +124,7 @@ impl LockTable {
 fn has_bit(bits: u64, who: u32) -> bool
     ensures { result ≡ set.contains (holders_of bits) who }
 {
-    if 1 <= who && who <= 64 {
+    if 1 <= who && who <= MOST_OPENERS {
         (bits >> (who - 1)) & 1 == 1
     } else {
         false
@@ -132,7 +134,7 @@ fn has_bit(bits: u64, who: u32) -> bool
 // These bits and that of one more holder.
 fn with_bit(bits: u64, who: u32) -> u64
     requires least { 1 ≤ who }
-    requires most { who ≤ 64 }
+    requires most { who ≤ MOST_OPENERS }
     ensures { holders_of result ≡ set.insert (holders_of bits) who }
 {
     bits | (1 << (who - 1))
@@ -143,7 +145,7 @@ fn without_bit(bits: u64, who: u32) -> u64
     ensures after { holders_of result ≡ set.remove (holders_of bits) who }
     ensures none { bits ≡ 0 → result ≡ 0 }
 {
-    if 1 <= who && who <= 64 {
+    if 1 <= who && who <= MOST_OPENERS {
         bits & !(1 << (who - 1))
     } else {
         bits
@@ -166,7 +168,7 @@ mod tests {
     // The answer to a try, where the opener holds nothing.
     fn tried(table: &mut LockTable, who: u32, kind: LockKind) -> Option<Tried>
         requires least { 1 ≤ who }
-        requires most { who ≤ 64 }
+        requires most { who ≤ MOST_OPENERS }
     {
         if table.holds(who) {
             return None;

@@ -20,7 +20,7 @@ use Rattle.opener.specs.declared.work.Stage.TheVariants as stage
 use Rattle.opener.specs.declared.work.Work.{Work}
 use Rattle.opener.specs.declared.work.Work.TheVariants.{Ended, Idle, Runs}
 use Rattle.region_words.specs.Apart.{Apart}
-use Rattle.region_words.specs.Local.{Local, Seated, account_of, kept_in, reserved_in, seat_state}
+use Rattle.region_words.specs.Local.{Local, Seated, account_of, kept_after, reserved_in, seat_state}
 use Rattle.region_words.specs.Past.{has_died, locks_after}
 use Rattle.region_words.specs.Region.{Region, IsAccepted}
 use Rattle.region_words.specs.Share.{Goes, IsFull, ShareState, lock_of, most_events, places_for, total, unlock_place, unmoved}
@@ -132,10 +132,9 @@ module _ (w : WorldState) (sound : IsSound w) (opened : ℕ) (open_to : IsOpenTo
   abbrev extra : ℕ
   extra = total (extra_for admitted (reserved_in w.region) w.region.past) 64
 
-  kept_parts : kept_in w.region.accounts ≡ places_after opened w.region.past + extra
+  kept_parts : kept_after w.region ≡ places_after opened w.region.past + extra
   kept_parts =
-      sound.kept
-      ∙ total_split (places_for admitted (reserved_in w.region) w.region.past) (places_for (first opened) no_places w.region.past) (extra_for admitted (reserved_in w.region) w.region.past) 64
+      total_split (places_for admitted (reserved_in w.region) w.region.past) (places_for (first opened) no_places w.region.past) (extra_for admitted (reserved_in w.region) w.region.past) 64
       (λ v least. one_place (admitted v) (first opened v) (has_died w.region.past v) (unlock_place (lock_of (locks_after w.region.past) v)) (reserved_in w.region v) (is_first opened v (admitted v) least (open_to v least)))
 
   -- whoever has any reserved
@@ -166,7 +165,7 @@ module _ (w : WorldState) (sound : IsSound w) (opened : ℕ) (open_to : IsOpenTo
   roomy = omega (arith, kept_parts, sound.roomy)
 
   -- where nobody has any reserved
-  pub too_full : (asked : ℕ) → ((v : Reserver) → ⊥) → most_events < length w.region.past + kept_in w.region.accounts + asked → IsTooFull opened w.region.past asked
+  pub too_full : (asked : ℕ) → ((v : Reserver) → ⊥) → most_events < length w.region.past + kept_after w.region + asked → IsTooFull opened w.region.past asked
   too_full asked nobody full = omega (arith, kept_parts, full, none (cases_lt 0 extra))
     where
       none : (0 < extra) ⊎ (extra ≤ 0) → extra ≡ 0
@@ -174,7 +173,7 @@ module _ (w : WorldState) (sound : IsSound w) (opened : ℕ) (open_to : IsOpenTo
       none (inr zeros) = omega (arith, zeros)
 
   -- one more opener has no place
-  pub no_place : most_events < length w.region.past + kept_in w.region.accounts + 1 →
+  pub no_place : most_events < length w.region.past + kept_after w.region + 1 →
       (reserved : ℕ) × (0 < reserved → (v : ℕ) × (lock_of (locks_after w.region.past) v ≡ Some Exclusive)) × IsTooFull opened w.region.past (reserved + 1)
   no_place full = (extra, (λ some. let r = reserver some in (r.number, r.holds)), omega (arith, kept_parts, full))
 

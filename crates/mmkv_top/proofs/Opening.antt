@@ -21,7 +21,7 @@ use Rattle.opener.specs.declared.calls.Stop.TheVariants as stop
 use Rattle.opener.specs.declared.calls.Step.TheVariants as step
 use Rattle.opener.specs.declared.work.Work.{Work}
 use Rattle.opener.specs.declared.work.Work.TheVariants.{Idle, Ended, Runs}
-use Rattle.region_words.specs.Local.{Local, account_of, after_admission, kept_in, no_account, with_account}
+use Rattle.region_words.specs.Local.{Local, account_of, after_admission, kept_after, no_account, with_account}
 use Rattle.region_words.specs.Past.{changes_of, has_died, locks_after, region_after}
 use Rattle.region_words.specs.Region.{Region, file_size}
 use Rattle.region_words.specs.Share.{lock_of, most_events}
@@ -123,7 +123,7 @@ module _ (stock left left' : Stock) (start : Region) (parts : List Part) (p : Pl
   enough : drawn strategy (strategies parts) < stocked stock strategy
   enough = omega (arith, at.drawn strategy, drew strategy, one_of (is_same strategy strategy) (is_itself strategy))
 
-  no_place_left : most_events < length p.world.region.past + kept_in p.world.region.accounts + 1 → MetNoPlace parts
+  no_place_left : most_events < length p.world.region.past + kept_after p.world.region + 1 → MetNoPlace parts
   no_place_left full =
       let met = subst (NoPlace (length (strategies parts))) at.past (no_place p.world before (length (strategies parts)) at.open_to (sym at.count) full) in
       record { reserved = met.0; by_holder = met.1; full = met.2 }

@@ -24,7 +24,6 @@ silent_state s =
       admitted = λ w. true;
       reserved = λ w. if w == 1 then kept_under s.lock s.places else 0;
       room = λ w. if w == 1 then kept_under s.lock s.room else 0;
-      kept = 0;
       fails = None;
       calls = 0;
       counts = record { faults = 0; loads = s.loads; busy = 0; turns = 0 };

@@ -23,7 +23,6 @@ mute_state m =
       admitted = λ w. true;
       reserved = λ w. if w == 1 then kept_under m.lock m.places else 0;
       room = λ w. if w == 1 then kept_under m.lock m.room else 0;
-      kept = 0;
       fails = None;
       calls = 0;
       counts = record { faults = 0; loads = m.loads; busy = 0; turns = 0 };

@@ -2,7 +2,7 @@
 use Rattle.std.proofs.Common.{◌≡◌, ◌≢◌, ℕ, zero, suc, ◌+◌, ◌-◌, ◌≤◌, ◌<◌, Bool, true, false, eqb, List, ◌∷◌, length, set, refl, sym, subst, ap, ◌∙◌, arith, inl, inr, ◌⊎◌, ◌&&◌, ◌||◌, not, get_or-set_other, get_or-set_same}
 use Rattle.std.proofs.lemmas.List.{length-set}
 use Rattle.std.proofs.lemmas.Bool.Decides.{eqb_tells, nat_tests}
-use Rattle.std.specs.Prelude.{Option, Some, None, IsTrue, nat_lt, ◌==◌}
+use Rattle.std.specs.Prelude.{Option, Some, None, IsTrue, nat_lt, ◌==◌, if◌then◌else◌}
 use Rattle.std.specs.Option.{option_map_or}
 use Rattle.std.specs.Ordering.{nat_cmp}
 use Rattle.std.specs.FinSet as set
@@ -12,13 +12,16 @@ use Rattle.lock_rules.specs.declared.table.LockKind.TheVariants.{Shared, Exclusi
 use Rattle.region_words.specs.Region.{Region}
 use Rattle.region_words.specs.Past.{region_after, locks_after, has_died, is_death}
 use Rattle.region_words.specs.Lawful.{Lawful, IsPossible}
-use Rattle.region_words.specs.Share.{lock_of, unlock_place, most_events}
-use Rattle.region_words.specs.Local.{Local, IsLocal, IsAccount, IsKeptFor, HasRoomFor, HasPlace, account_of, no_account, account_after, kept_in, lock_after, with_event, event_of, with_account, after_admission, after_reserve}
+use Rattle.region_words.specs.Share.{lock_of, unlock_place, most_events, places_for}
+use Rattle.region_words.specs.Local.{Local, IsLocal, IsAccount, IsKeptFor, HasRoomFor, HasPlace, LacksPlaces, account_of, no_account, account_after, kept_in, kept_after, reserved_in, lock_after, with_event, event_of, with_account, after_admission, after_reserve}
+use Rattle.region_words.specs.Places.{LacksRoom}
 use Rattle.region_words.specs.declared.account.Account.{Account}
+use Rattle.region_words.specs.declared.places.AdmitStop.{AdmitStop}
+use Rattle.region_words.specs.declared.places.AdmitStop.TheVariants.{JournalFull, Memory}
 use Rattle.region_words.specs.declared.event.What.{What}
 use Rattle.region_words.specs.declared.event.What.TheVariants.{Store, Grow, Lock, Unlock, Died}
 use Rattle.region_words.specs.declared.event.Event.{Event}
-use Rattle.region_words.proofs.Totals.{total_set}
+use Rattle.region_words.proofs.Totals.{total_same, total_set}
 use Rattle.region_words.proofs.LockOf.{exclusive_holds, holds_none, none_holds, is_exclusive, lock_other, lock_without, lock_with, died_other}
 
 pub own_account : (accounts : List Account) (who : ℕ) (a : Account) → who < length accounts → account_of (set accounts who a) who ≡ a
@@ -259,3 +262,27 @@ reserved_account past who a events size is exclusive =
         unreserved = λ n. absurd (n exclusive);
       },
     )
+
+-- the places of an account are those for its opener
+places_are : (past : List Event) (who : ℕ) (a : Account) → IsAccount past who a →
+    (if a.admitted && not (has_died past who) then 1 + unlock_place (lock_after past who) + (a.kept - (1 + unlock_place (lock_after past who))) else 0) ≡ a.kept
+places_are past who a is = go (a.admitted && not (has_died past who)) is.lives
+  where
+    go : (b : Bool) → b ≡ nat_lt 0 a.kept →
+        (if b then 1 + unlock_place (lock_after past who) + (a.kept - (1 + unlock_place (lock_after past who))) else 0) ≡ a.kept
+    go true e = let some : 0 < a.kept = grind (arith, nat_tests) in let more = is.unlocks some in omega (arith, more)
+    go false e = grind (arith, nat_tests)
+
+-- the places in the accounts are those that are kept for the openers
+kept_is : (l : Local) → IsLocal l → kept_in l.accounts ≡ kept_after l
+kept_is l is =
+    sym (total_same (λ w. (account_of l.accounts w).kept) (places_for (λ w. (account_of l.accounts w).admitted) (reserved_in l) l.past) 64 (λ w lo hi. places_are l.past w (account_of l.accounts w) (is.each w)))
+
+-- the journal has room for them
+pub kept_few : (l : Local) → IsLocal l → length l.past + kept_after l ≤ most_events
+kept_few l is = omega (arith, is.few, kept_is l is)
+
+-- and where it hasn't for so many more, that is why
+pub lacks_places : (l : Local) → IsLocal l → (asked n : ℕ) (stop : AdmitStop) → LacksRoom n stop → n ≡ length l.past + kept_in l.accounts + asked → LacksPlaces l asked stop
+lacks_places l is asked n JournalFull lacks sum = omega (arith, sum, lacks, kept_is l is)
+lacks_places l is asked n Memory lacks sum = tt

@@ -22,7 +22,7 @@ use Rattle.region_words.proofs.OfRegion.{growth, next_sequence}
 use Rattle.region_words.specs.Apart.{Apart, strings, last_word}
 use Rattle.region_words.specs.Lawful.{Phase, Between, Within, Reaches, Lawful, IsPossible, IsStep, Advances, MayComeNext, MayTear, Dies, IsTearer, phase_with, map_after}
 use Rattle.region_words.proofs.Bytes.{IsMixOf, torn_mix}
-use Rattle.region_words.specs.Outcome.{IsBroken, WasCut, ShowsHistory, AtRest, IsRewriting, commits, is_some_change, stores_sequence}
+use Rattle.region_words.specs.Outcome.{IsBroken, WasCut, ShowsHistory, AtRest, IsRewriting, is_repair, commits, is_some_change, stores_sequence}
 use Rattle.region_words.specs.Answered.{is_store}
 use Rattle.region_words.specs.declared.event.Side.TheVariants.{Data, Meta}
 use Rattle.region_words.specs.declared.event.Mark.{Mark}
@@ -49,18 +49,6 @@ RowSafe =
 -- the region may be broken: a death cut a rewrite, or it was so from the start
 abbrev pub MayBreak : Region → List Event → Type 0
 MayBreak start past = WasCut start past ⊎ (IsBroken start × (changes_of past ≡ []))
-
--- a row that begins in a region that is broken
-abbrev pub is_repair : Row → Bool
-is_repair Restore = true
-is_repair Discard = true
-is_repair Recover = true
-is_repair SizeRepair = false
-is_repair (Append a) = false
-is_repair (Pack now need) = false
-is_repair Clear = false
-is_repair (Enable now seconds) = false
-is_repair (Disable now) = false
 
 -- a broken region within a row: only a repair begins in one, and its change is still to come
 abbrev pub Excused : Region → List Event → Row → List What → Type 0

@@ -1,18 +1,19 @@
 -- The central law of the store: at rest a region shows the map of the history so far, but after a death within a rewrite.
-use Rattle.std.proofs.Common.{◌≡◌, ◌⊎◌, ℕ, Bool, true, List, [], ◌∷◌, refl, sym, ◌∙◌, inl, inr, subst}
+use Rattle.std.proofs.Common.{◌≡◌, ◌⊎◌, ℕ, Bool, true, List, [], ◌∷◌, refl, sym, ap, ◌∙◌, inl, inr, subst, append-nil}
 use Rattle.std.specs.Prelude.{Option, Some, None, IsTrue, Contains}
 use Rattle.crc_words.specs.Crc.{crc}
 use Rattle.std.specs.List.{list_any}
 use Rattle.expiring_map.specs.Map.{Map, pairs_of}
 use Rattle.change_log.specs.declared.change.Act.{Act}
+use Rattle.lock_rules.specs.Locks.{holds_exclusive}
 use Rattle.meta_record.specs.declared.shown.Damage.{Damage}
 use Rattle.meta_record.specs.declared.shown.Shown.TheVariants.{Whole, Last, Damaged}
-use Rattle.region_words.specs.Region.{Region, IsRegion, IsAccepted, shown, record_of, map_shown, ShowsMap}
-use Rattle.region_words.specs.Past.{region_after, locks_after}
-use Rattle.region_words.specs.Rows.{Row, Append, Pack, Clear, Enable, Disable, Restore, Discard, Recover, SizeRepair, events_of}
+use Rattle.region_words.specs.Region.{Region, IsRegion, IsAccepted, base, shown, record_of, map_shown, ShowsMap}
+use Rattle.region_words.specs.Past.{region_after, changes_of, locks_after}
+use Rattle.region_words.specs.Rows.{Row, Append, Pack, Clear, Enable, Disable, Restore, Discard, Recover, SizeRepair, events_of, store_data, store_meta}
 use Rattle.region_words.specs.Apart.{Apart, strings, last_word}
-use Rattle.region_words.specs.Lawful.{Lawful, Reaches, Phase, Between, Within, MayTear, Advances, map_after}
-use Rattle.region_words.specs.Outcome.{AtRest, ShowsHistory, IsRewriting, commits}
+use Rattle.region_words.specs.Lawful.{Lawful, Reaches, Phase, Between, Within, MayTear, Dies, Advances, map_after}
+use Rattle.region_words.specs.Outcome.{AtRest, ShowsHistory, IsBroken, IsRewriting, is_repair, commits}
 use Rattle.region_words.specs.Answered.{is_store}
 use Rattle.region_words.specs.declared.event.TornWord.{TornWord}
 use Rattle.region_words.specs.declared.event.What.{What}
@@ -21,6 +22,7 @@ use Rattle.region_words.specs.declared.event.Side.TheVariants.{Meta}
 use Rattle.region_words.specs.declared.event.Mark.{Mark}
 use Rattle.region_words.specs.declared.event.Event.{Event}
 use Rattle.region_words.proofs.PhaseLaw.{phase_law}
+use Rattle.change_log.specs.Acts.{replay}
 use Rattle.change_log.specs.declared.change.Change.{Change}
 use Rattle.change_log.specs.declared.change.Act.TheVariants as act
 use Rattle.region_words.proofs.RestoreCut.{RestoreAt, Restoring, Coming, restoring_begins, restoring_goes, still_last_region}
@@ -32,12 +34,12 @@ use Rattle.region_words.proofs.Strings.{strings_hold}
 use Rattle.region_words.proofs.Safe.{Safe}
 use Rattle.region_words.proofs.TextLaws.{TextLaws}
 use Rattle.region_words.proofs.TextProofs.{text_laws}
-use Rattle.region_words.proofs.Frame.{RowSafe, Inv, is_repair, shows_history, keeps, cut_shows, tear_shows, row_ends, named_store, left}
+use Rattle.region_words.proofs.Frame.{RowSafe, Inv, shows_history, keeps, cut_shows, tear_shows, row_ends, named_store, left}
 use Rattle.region_words.proofs.ShortRows.{safe_any, resize_safe, restore_safe, discard_safe}
 use Rattle.region_words.proofs.AppendRow.{append_safe}
 use Rattle.region_words.proofs.WriteBack.{pack_safe, clear_safe}
 use Rattle.region_words.proofs.Switch.{enable_safe, disable_safe, recover_safe}
-use Rattle.region_words.specs.Laws.{IsTrueRun, CutsAppend}
+use Rattle.region_words.specs.Laws.{IsTrueRun, CutsAppend, IsRestoring, ShowsHistoryAfterACut, ShowsHistoryOrBreaks, RowsEndWhole, RestoresShowTheLastImage}
 
 -- leave to be broken is there where a broken region is what a row begins in
 needs : (v : View) (m : Map) (b : Bool) → (Shows v m → ⊥) → Shows v m ⊎ (b ≡ true) → b ≡ true
@@ -152,3 +154,52 @@ cut_append start who torn past a (Within row rest) run cut =
 cut_append start who None past a (Between room) run cut = absurd cut
 cut_append start who (Some t) past a (Between room) run cut =
     first_word_death_law start who t past room run.region run.accepted run.lawful run.apart cut.0 cut.1
+
+-- and these laws as they are promised
+pub cut_row : ShowsHistoryAfterACut
+cut_row start who torn past row rest run cut calm whole =
+    cut_law start who torn past row rest run.region run.accepted run.lawful run.apart cut.reached cut.tears calm (λ repair left. whole (repair, left))
+
+pub cut_holder : ShowsHistoryOrBreaks
+cut_holder start who torn past row rest run cut holds =
+    go (main_law start (e ∷ past) run.region run.accepted run.lawful run.apart (None, (Within row rest, cut.reached, ended)))
+  where
+    e : Event
+    e = record { who = who; what = Died torn }
+
+    ended : Dies (holds_exclusive (locks_after past) who) (region_after start past) (map_after start past) who (Within row rest) torn (Between None)
+    ended = subst (λ b. Dies b (region_after start past) (map_after start past) who (Within row rest) torn (Between None)) (sym holds) (cut.tears, refl)
+
+    go : ShowsHistory start (e ∷ past) → ShowsMap (region_after start (e ∷ past)) (map_after start past) ⊎ IsBroken (region_after start (e ∷ past))
+    go (inl shows) = inl (subst (λ (cs : List Change). ShowsMap (region_after start (e ∷ past)) (replay (base start) cs)) (append-nil (changes_of past)) shows)
+    go (inr broken) = inr broken.0
+
+pub row_whole : RowsEndWhole
+row_whole start e past room run is ends = whole_law start e past room run.region run.accepted run.lawful run.apart is ends
+
+pub cut_restore : RestoresShowTheLastImage
+cut_restore start past what rest run within = go (restore_law start past what rest run.region run.accepted run.lawful run.apart within)
+  where
+    r : Region
+    r = region_after start past
+
+    restoring : (m : Map) (change : Change) → change.act ≡ act.Restored (pairs_of m) → Coming (what ∷ rest) (view r) change → IsRestoring r m (what ∷ rest)
+    restoring m change names (inl (x, is)) = record { change = change; names = names; made = []; sequence = x; left = is }
+    restoring m change names (inr (inl is)) =
+        record { change = change; names = names; made = store_meta 2 0 ∷ []; sequence = 0; left = ap (λ rest. store_meta 2 0 ∷ rest) is }
+    restoring m change names (inr (inr (inl is))) =
+        record { change = change; names = names; made = store_meta 2 0 ∷ store_data 0 (record_of r).last_size ∷ []; sequence = 0; left = ap (λ rest. store_meta 2 0 ∷ store_data 0 (record_of r).last_size ∷ rest) is }
+    restoring m change names (inr (inr (inr is))) =
+        record {
+          change = change;
+          names = names;
+          made = store_meta 2 0 ∷ store_data 0 (record_of r).last_size ∷ store_meta 7 (record_of r).last_size ∷ [];
+          sequence = 0;
+          left = ap (λ rest. store_meta 2 0 ∷ store_data 0 (record_of r).last_size ∷ store_meta 7 (record_of r).last_size ∷ rest) is;
+        }
+
+    go : ShowsMap r (map_after start past)
+        ⊎ ((shown r ≡ Last (record_of r).last_size) × ((m : Map) × (map_shown r ≡ Some m) × ((c : Change) × (c.act ≡ act.Restored (pairs_of m)) × Coming (what ∷ rest) (view r) c))) →
+        ShowsMap r (map_after start past) ⊎ ((shown r ≡ Last (record_of r).last_size) × ((m : Map) × (map_shown r ≡ Some m) × IsRestoring r m (what ∷ rest)))
+    go (inl shows) = inl shows
+    go (inr (last, (m, maps, (change, names, coming)))) = inr (last, (m, maps, restoring m change names coming))

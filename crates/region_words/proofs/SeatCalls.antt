@@ -1,15 +1,15 @@
 -- What the calls of a seat are for a share: from the region in memory before and after to the words of the trait.
 use Rattle.std.proofs.Common.{◌≡◌, ◌≢◌, ℕ, ◌+◌, ◌-◌, ◌≤◌, ◌<◌, Bool, true, false, eqb, List, [], ◌∷◌, ◌++◌, length, set, refl, sym, subst, ap, ◌∙◌, arith, inl, inr, ◌⊎◌, ◌&&◌, ◌||◌, not}
 use Rattle.std.proofs.lemmas.Bool.Decides.{eqb_tells, nat_tests}
-use Rattle.std.specs.Prelude.{Option, Some, None, nat_lt, if◌then◌else◌, Contains}
+use Rattle.std.specs.Prelude.{Option, Some, None, nat_lt, Contains}
 use Rattle.lock_rules.specs.Locks.{MayTake}
 use Rattle.lock_rules.specs.declared.table.LockKind.{LockKind}
 use Rattle.lock_rules.specs.declared.table.LockKind.TheVariants.{Exclusive}
 use Rattle.region_words.specs.Past.{region_after, locks_after, has_died, is_death}
 use Rattle.region_words.specs.Lawful.{Lawful, IsWordOf}
 use Rattle.region_words.specs.Outside.{one_more}
-use Rattle.region_words.specs.Share.{ShareState, IsSound, IsSameShare, Counts, most_events, After, Left, unlock_place, places_for, made_by, stored, locked, unlocked_by, died, failed, loaded, refused, reserving, unmoved, MayTearAt, torn_word, IsNotDue, StopsReserving, StopsTrying}
-use Rattle.region_words.specs.Local.{Local, Seated, IsLocal, IsAccount, HasPlace, seat_state, account_of, account_after, kept_in, lock_after, reserved_in, with_event, event_of, with_account, called, after_load, after_refusal, after_fault, after_reserve, LacksPlaces, stop_of}
+use Rattle.region_words.specs.Share.{ShareState, IsSound, IsSameShare, Counts, most_events, After, Left, unlock_place, made_by, stored, locked, unlocked_by, died, failed, loaded, refused, reserving, unmoved, MayTearAt, torn_word, IsNotDue, StopsReserving, StopsTrying}
+use Rattle.region_words.specs.Local.{Local, Seated, IsLocal, HasPlace, seat_state, account_of, account_after, kept_in, lock_after, reserved_in, with_event, event_of, with_account, called, after_load, after_refusal, after_fault, after_reserve, LacksPlaces, stop_of}
 use Rattle.region_words.specs.declared.account.Account.{Account}
 use Rattle.region_words.specs.declared.event.TornWord.{TornWord}
 use Rattle.region_words.specs.declared.stops.TornStore.{TornStore}
@@ -20,22 +20,10 @@ use Rattle.region_words.specs.declared.event.Side.TheVariants.{Meta}
 use Rattle.region_words.specs.declared.event.Mark.{Mark}
 use Rattle.region_words.specs.declared.event.What.{What}
 use Rattle.region_words.specs.declared.event.What.TheVariants.{Store, Grow, Lock, Unlock, Died}
-use Rattle.region_words.specs.declared.event.Event.{Event}
-use Rattle.region_words.proofs.Totals.{total_same}
 use Rattle.region_words.proofs.LockOf.{exclusive_holds, lock_other, lock_without, lock_with}
-use Rattle.region_words.proofs.Accounts.{own_account, other_account, local_account, local_event, held_places, not_dead, now_dead, free_holds_none, counted, reserved_account}
+use Rattle.region_words.proofs.Accounts.{kept_few, own_account, other_account, local_account, local_event, held_places, not_dead, now_dead, free_holds_none, counted, reserved_account}
 use Rattle.region_words.proofs.Permits.{may_die}
 use Rattle.region_words.proofs.Regions.{lawful_region}
-
--- the places of an account are those for its opener
-places_are : (past : List Event) (who : ℕ) (a : Account) → IsAccount past who a →
-    (if a.admitted && not (has_died past who) then 1 + unlock_place (lock_after past who) + (a.kept - (1 + unlock_place (lock_after past who))) else 0) ≡ a.kept
-places_are past who a is = go (a.admitted && not (has_died past who)) is.lives
-  where
-    go : (b : Bool) → b ≡ nat_lt 0 a.kept →
-        (if b then 1 + unlock_place (lock_after past who) + (a.kept - (1 + unlock_place (lock_after past who))) else 0) ≡ a.kept
-    go true e = let some : 0 < a.kept = grind (arith, nat_tests) in let more = is.unlocks some in omega (arith, more)
-    go false e = grind (arith, nat_tests)
 
 -- a seat says of itself what its journal says
 pub seat_sound : (s : Seated) → (1 ≤ s.who) × (s.who ≤ 64) → IsLocal s.region → IsSound (seat_state s)
@@ -49,8 +37,7 @@ seat_sound s maker is =
         lawful = is.lawful;
         holds = refl;
         ended = refl;
-        kept = λ _. sym (total_same (λ w. (account_of l.accounts w).kept) (places_for (λ w. (account_of l.accounts w).admitted) (reserved_in l) l.past) 64 (λ w lo hi. places_are l.past w (account_of l.accounts w) (is.each w)));
-        few = λ _. is.few;
+        few = λ _. kept_few l is;
       };
     }
   where

@@ -3,10 +3,11 @@ use Rattle.expiring_map.specs.Map.{Map}
 use Rattle.kv_pairs.specs.Growth.{largest}
 use Rattle.change_log.specs.Acts.{replay}
 use Rattle.lock_rules.specs.Locks.{Locks, holds, holds_exclusive, MayTake}
+use Rattle.lock_rules.specs.declared.limits.TheConstants.{MOST_OPENERS}
 use Rattle.meta_record.specs.Words.{word_at, torn}
 use Rattle.region_words.specs.Region.{Region, IsAccepted, file_size, base}
 use Rattle.region_words.specs.Past.{region_after, changes_of, locks_after, has_died}
-use Rattle.region_words.specs.Rows.{Row, Pack, MayBegin, events_of}
+use Rattle.region_words.specs.Rows.{Row, Append, Pack, Clear, Enable, Disable, Restore, Discard, Recover, SizeRepair, MayBegin, events_of}
 use Rattle.region_words.specs.Apart.{Apart}
 use Rattle.region_words.specs.declared.event.Side.{Side}
 use Rattle.region_words.specs.declared.event.Side.TheVariants.{Data, Meta}
@@ -53,7 +54,7 @@ IsPossible r locks who (Died torn) = IsTearer locks who torn × IsTornIn r torn
 
 -- an event that may come after this past, whatever the checksums are
 pub record IsPermitted (start : Region) (past : List Event) (e : Event) : Type 0 where
-  pub maker : (1 ≤ e.who) × (e.who ≤ 64)
+  pub maker : (1 ≤ e.who) × (e.who ≤ MOST_OPENERS)
   pub alive : has_died past e.who ≡ false
   pub possible : IsPossible (region_after start past) (locks_after past) e.who e.what
   pub accepted : IsAccepted start → IsAccepted (region_after start (e ∷ past))
@@ -65,8 +66,15 @@ pub data Phase : Type 0 where
 
 -- what a row that has ended leaves
 abbrev pub room_of : Row → Option ℕ
+room_of (Append a) = None
 room_of (Pack now need) = Some need
-room_of _ = None
+room_of Clear = None
+room_of (Enable now seconds) = None
+room_of (Disable now) = None
+room_of Restore = None
+room_of Discard = None
+room_of Recover = None
+room_of SizeRepair = None
 
 -- the phase in which these events of the row are to come
 abbrev pub phase_with : Row → List What → Phase

@@ -1,29 +1,32 @@
 -- The laws of a region that several openers change.
-use Rattle.std.specs.Prelude.{◌≡◌, ℕ, ◌+◌, ◌^◌, ◌<◌, ◌≤◌, Bool, List, ◌∷◌, ◌++◌, Option, Some, None, true, false, length, ◌==◌, if◌then◌else◌}
+use Rattle.std.specs.Prelude.{◌≡◌, ℕ, ◌+◌, ◌^◌, ◌<◌, ◌≤◌, ◌⊎◌, Bool, List, [], ◌∷◌, ◌++◌, Option, Some, None, true, false, length, IsTrue, ◌==◌, if◌then◌else◌}
 use Rattle.std.specs.List.{AllByRecursion}
 use Rattle.crc_words.specs.Crc.{crc_from}
-use Rattle.expiring_map.specs.Map.{Map}
+use Rattle.expiring_map.specs.Map.{Map, pairs_of}
 use Rattle.kv_pairs.specs.Growth.{largest}
 use Rattle.kv_pairs.specs.Mapped.{packed, IsPackable}
 use Rattle.change_log.specs.Acts.{applied, replay, is_append}
 use Rattle.change_log.specs.declared.change.Act.{Act}
 use Rattle.change_log.specs.declared.change.Act.TheVariants as act
 use Rattle.change_log.specs.declared.change.Change.{Change}
-use Rattle.lock_rules.specs.Locks.{holds}
+use Rattle.lock_rules.specs.Locks.{holds, holds_exclusive}
 use Rattle.meta_record.specs.declared.shown.Shown.TheVariants.{Whole, Last}
 use Rattle.region_words.specs.Region.{Region, IsRegion, IsAccepted, record_of, flag, payload_of, file_size, shown, map_shown, ShowsMap}
 use Rattle.region_words.specs.Past.{region_after, after_all, changes_of, locks_after, NoneOf}
-use Rattle.region_words.specs.Rows.{Append, Pack, Clear, Enable, Disable, Restore, Recover, Row, MayBegin, HasRoom, IsAppendable, AreBytes, append_stores, events_of, flag_after, item_of, payload_after, size_after, standing}
+use Rattle.region_words.specs.Rows.{Append, Pack, Clear, Enable, Disable, Restore, Recover, Row, MayBegin, HasRoom, IsAppendable, IsWhole, AreBytes, append_stores, store_data, store_meta, events_of, flag_after, item_of, payload_after, size_after, standing}
 use Rattle.region_words.specs.Standings.{standing_of, IsStandingOf}
 use Rattle.region_words.specs.Apart.{Apart}
 use Rattle.region_words.specs.Lawful.{Lawful, Phase, Between, Within, Reaches, MayTear, map_after}
-use Rattle.region_words.specs.Outcome.{AtRest, ShowsHistory, confirmed, HasConfirmed}
+use Rattle.region_words.specs.Outcome.{AtRest, ShowsHistory, IsBroken, IsRewriting, IsRepairing, confirmed, HasConfirmed}
+use Rattle.region_words.specs.Answered.{is_store}
 use Rattle.region_words.specs.Images.{image_of, IsKept, SameImage, LoadsOn, bytes_behind, sequence_at, checksum_at}
 use Rattle.region_words.specs.Making.{write_back_by, switch_by, appended_standing, rewritten_standing, IsWriteBack, IsSwitch}
 use Rattle.region_words.specs.declared.standing.Standing.{Standing}
 use Rattle.region_words.specs.declared.event.Mark.TheVariants.{Commit}
+use Rattle.region_words.specs.declared.event.Side.TheVariants.{Meta}
 use Rattle.region_words.specs.declared.event.TornWord.{TornWord}
-use Rattle.region_words.specs.declared.event.What.TheVariants.{Died}
+use Rattle.region_words.specs.declared.event.What.{What}
+use Rattle.region_words.specs.declared.event.What.TheVariants.{Store, Died}
 use Rattle.region_words.specs.declared.event.Event.{Event}
 
 -- the events were lawful from a region on
@@ -91,7 +94,56 @@ ShowsHistoryAfterACutAppend =
     let e : Event = record { who = who; what = Died torn } in
     IsTrueRun start (e ∷ past) → CutsAppend start who torn past a phase → ShowsMap (region_after start (e ∷ past)) (map_after start past)
 
--- Where the last confirmed image is shown, it is the one that the last confirmed words stand for.
+-- a death comes within a row, after some of its events or as it tears the next
+pub record CutsRow (start : Region) (who : ℕ) (torn : Option TornWord) (past : List Event) (row : Row) (rest : List What) : Type 0 where
+  pub reached : Reaches start past (Within row rest)
+  pub tears : MayTear (region_after start past) (map_after start past) who (Within row rest) torn
+
+-- A death within a row leaves a region that shows the map of the history, but for a rewrite between the store of its sequence
+-- and its mark, and for a repair of a broken region before its mark.
+abbrev pub ShowsHistoryAfterACut : Type 0
+ShowsHistoryAfterACut =
+    (start : Region) (who : ℕ) (torn : Option TornWord) (past : List Event) (row : Row) (rest : List What) →
+    let e : Event = record { who = who; what = Died torn } in
+    IsTrueRun start (e ∷ past) → CutsRow start who torn past row rest → (IsRewriting (Within row rest) → ⊥) → (IsRepairing (Within row rest) → ⊥) →
+    ShowsMap (region_after start (e ∷ past)) (map_after start past)
+
+-- Wherever the death of the exclusive holder cuts a row, the region shows that map, its last confirmed image, or damage.
+abbrev pub ShowsHistoryOrBreaks : Type 0
+ShowsHistoryOrBreaks =
+    (start : Region) (who : ℕ) (torn : Option TornWord) (past : List Event) (row : Row) (rest : List What) →
+    let e : Event = record { who = who; what = Died torn } in
+    IsTrueRun start (e ∷ past) → CutsRow start who torn past row rest → holds_exclusive (locks_after past) who ≡ true →
+    ShowsMap (region_after start (e ∷ past)) (map_after start past) ⊎ IsBroken (region_after start (e ∷ past))
+
+-- After the last store of a row the region shows a whole image.
+abbrev pub RowsEndWhole : Type 0
+RowsEndWhole =
+    (start : Region) (e : Event) (past : List Event) (room : Option ℕ) →
+    IsTrueRun start (e ∷ past) → IsTrue (is_store e.what) → Reaches start (e ∷ past) (Between room) → IsWhole (region_after start (e ∷ past))
+
+-- these events are left of a restore of the last confirmed image, whose change names the pairs of this map
+pub record IsRestoring (r : Region) (m : Map) (events : List What) : Type 0 where
+  pub change : Change
+  pub names : change.act ≡ act.Restored (pairs_of m)
+  pub made : List What
+  pub sequence : ℕ
+  pub left :
+      made ++ events
+      ≡ store_meta 2 sequence ∷ store_data 0 (record_of r).last_size ∷ store_meta 7 (record_of r).last_size
+      ∷ Store Meta 0 (record_of r).last_checksum (Commit change) ∷ []
+
+-- Within a restore the region shows the map of the history, or still the last confirmed image, the one that is restored. So it
+-- does after a death there, which leaves the region as it is.
+abbrev pub RestoresShowTheLastImage : Type 0
+RestoresShowTheLastImage =
+    (start : Region) (past : List Event) (what : What) (rest : List What) → IsTrueRun start past → Reaches start past (Within Restore (what ∷ rest)) →
+    let r = region_after start past in
+    ShowsMap r (map_after start past)
+    ⊎ ((shown r ≡ Last (record_of r).last_size) × ((m : Map) × (map_shown r ≡ Some m) × IsRestoring r m (what ∷ rest)))
+
+-- Where the last confirmed image is shown, it is the one that the last confirmed words stand for: they were stored in this run,
+-- or agreed with the payload at its start.
 abbrev pub LastIsConfirmed : Type 0
 LastIsConfirmed =
     (start : Region) (past : List Event) (n : ℕ) → IsTrueRun start past → HasConfirmed start past → shown (region_after start past) ≡ Last n →

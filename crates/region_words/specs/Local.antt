@@ -2,6 +2,7 @@
 use Rattle.std.specs.Prelude.{◌≡◌, ◌≢◌, ℕ, ◌+◌, ◌-◌, ◌<◌, ◌≤◌, Bool, true, false, List, [], ◌∷◌, length, replicate, Option, Some, None, not, ◌&&◌, ◌||◌, nat_lt, max, slice_index_or, slice_set, ⊤}
 use base.Stored.{coded_ℕ}
 use Rattle.lock_rules.specs.Locks.{Locks, MayTake, IsLeastAgainst}
+use Rattle.lock_rules.specs.declared.limits.TheConstants.{MOST_OPENERS}
 use Rattle.lock_rules.specs.declared.table.Tried.{Tried}
 use Rattle.lock_rules.specs.declared.table.Tried.TheVariants.{Taken, Busy}
 use Rattle.lock_rules.specs.declared.table.LockKind.{LockKind}
@@ -11,7 +12,7 @@ use Rattle.region_words.specs.Past.{region_after, changes_of, locks_after, has_d
 use Rattle.region_words.specs.Lawful.{Lawful}
 use Rattle.region_words.specs.Outside.{Tally, one_more, after_call}
 use Rattle.region_words.specs.Stores.{filled_up}
-use Rattle.region_words.specs.Share.{ShareState, most_events, total, unlock_place, lock_of}
+use Rattle.region_words.specs.Share.{ShareState, most_events, total, unlock_place, lock_of, places_kept}
 use Rattle.region_words.specs.declared.account.Account.{Account}
 use Rattle.region_words.specs.declared.places.AdmitStop.{AdmitStop}
 use Rattle.region_words.specs.declared.places.AdmitStop.TheVariants.{JournalFull, Memory}
@@ -19,10 +20,10 @@ use Rattle.region_words.specs.declared.stops.ShareStop.{ShareStop}
 use Rattle.region_words.specs.declared.stops.ShareStop.TheVariants as share
 use Rattle.region_words.specs.Places.{LacksRoom}
 use Rattle.region_words.specs.declared.event.What.{What}
-use Rattle.region_words.specs.declared.event.What.TheVariants.{Grow, Lock, Unlock, Died}
+use Rattle.region_words.specs.declared.event.What.TheVariants.{Store, Grow, Lock, Unlock, Died}
 use Rattle.region_words.specs.declared.event.Event.{Event}
 
--- A region in memory. The accounts are those of the openers 1 to 64, at their numbers; `failing` has the calls that are to
+-- A region in memory. The accounts are those of the openers, at their numbers, which begin with 1; `failing` has the calls that are to
 -- fail and the number of calls made.
 pub record Local : Type 0 where
   pub start : Region
@@ -37,9 +38,9 @@ no_account = record { admitted = false; kept = 0; room = 0; faults = 0; loads = 
 abbrev pub account_of : List Account → ℕ → Account
 account_of accounts who = slice_index_or accounts who no_account
 
--- the places kept for all openers
+-- the places in the accounts of all openers
 abbrev pub kept_in : List Account → ℕ
-kept_in accounts = total (λ w. (account_of accounts w).kept) 64
+kept_in accounts = total (λ w. (account_of accounts w).kept) MOST_OPENERS
 
 -- the lock that an opener holds after these events
 abbrev pub lock_after : List Event → ℕ → Option LockKind
@@ -48,6 +49,10 @@ lock_after past who = lock_of (locks_after past) who
 -- the places of an opener that aren't for its death or its unlock
 abbrev pub reserved_in : Local → ℕ → ℕ
 reserved_in l who = (account_of l.accounts who).kept - (1 + unlock_place (lock_after l.past who))
+
+-- the places kept for all openers, by what has happened
+abbrev pub kept_after : Local → ℕ
+kept_after l = places_kept (λ w. (account_of l.accounts w).admitted) (reserved_in l) l.past
 
 -- an account agrees with what has happened
 pub record IsAccount (past : List Event) (who : ℕ) (a : Account) : Type 0 where
@@ -85,22 +90,27 @@ with_account l who a = record l { accounts = slice_set l.accounts who a }
 
 -- what an event leaves of the account of its opener
 abbrev pub account_after : What → Account → Account
+account_after (Store side word value mark) a = record a { kept = a.kept - 1 }
+account_after (Grow size) a = record a { kept = a.kept - 1 }
 account_after (Lock kind) a = record a { kept = a.kept + 1 }
 account_after Unlock a = record a { kept = 1; room = 0 }
 account_after (Died torn) a = record a { kept = 0; room = 0 }
-account_after _ a = record a { kept = a.kept - 1 }
 
 -- an event takes one of the places that are kept for its opener
 abbrev pub IsKeptFor : Account → Option LockKind → What → Type 0
+IsKeptFor a lock (Store side word value mark) = 0 < a.kept - (1 + unlock_place lock)
+IsKeptFor a lock (Grow size) = 0 < a.kept - (1 + unlock_place lock)
 IsKeptFor a lock (Lock kind) = 0 < a.kept
 IsKeptFor a lock Unlock = ⊤
 IsKeptFor a lock (Died torn) = 0 < a.kept
-IsKeptFor a lock _ = 0 < a.kept - (1 + unlock_place lock)
 
 -- a lock wants a place for itself and keeps one for its unlock
 abbrev pub HasRoomFor : Local → What → Type 0
+HasRoomFor l (Store side word value mark) = ⊤
+HasRoomFor l (Grow size) = ⊤
 HasRoomFor l (Lock kind) = length l.past + kept_in l.accounts + 2 ≤ most_events
-HasRoomFor l _ = ⊤
+HasRoomFor l Unlock = ⊤
+HasRoomFor l (Died torn) = ⊤
 
 -- the journal has a place for this event
 pub record HasPlace (l : Local) (who : ℕ) (what : What) : Type 0 where
@@ -152,7 +162,6 @@ seat_state s =
       admitted = λ w. (account_of l.accounts w).admitted;
       reserved = reserved_in l;
       room = λ w. (account_of l.accounts w).room;
-      kept = kept_in l.accounts;
       fails = Some l.failing.listed;
       calls = l.failing.made;
       counts = record { faults = a.faults; loads = a.loads; busy = a.busy; turns = 0 };
@@ -173,12 +182,15 @@ pub record Keeps (l : Local) (body meta : List ℕ) (locks : Locks) (kept change
 
 -- a growth has room
 abbrev pub HasRoomToGrow : Local → ℕ → What → Type 0
+HasRoomToGrow l who (Store side word value mark) = ⊤
 HasRoomToGrow l who (Grow size) = size ≤ (account_of l.accounts who).room
-HasRoomToGrow l who _ = ⊤
+HasRoomToGrow l who (Lock kind) = ⊤
+HasRoomToGrow l who Unlock = ⊤
+HasRoomToGrow l who (Died torn) = ⊤
 
 -- why so many places more aren't kept
 abbrev pub LacksPlaces : Local → ℕ → AdmitStop → Type 0
-LacksPlaces l asked = LacksRoom (length l.past + kept_in l.accounts + asked)
+LacksPlaces l asked = LacksRoom (length l.past + kept_after l + asked)
 
 -- the account of an opener that was admitted
 abbrev pub after_admission : Account → Account

@@ -16,7 +16,7 @@ use Rattle.region_words.specs.declared.next.Stored.TheVariants.{More, Done}
 use Rattle.region_words.specs.declared.standing.Standing.{Standing}
 use Rattle.region_words.specs.declared.event.Mark.{Mark}
 use Rattle.region_words.specs.declared.event.What.{What}
-use Rattle.region_words.specs.declared.event.What.TheVariants.{Store, Grow}
+use Rattle.region_words.specs.declared.event.What.TheVariants.{Store, Grow, Lock, Unlock, Died}
 
 -- the events to come, the size to which they grow the file, 0 where they don't, and what is known of the image after them
 pub record Making : Type 0 where
@@ -29,7 +29,9 @@ abbrev pub next_of : List What → Next
 next_of [] = next.End
 next_of (Store side word value mark ∷ rest) = next.Store side word value
 next_of (Grow size ∷ rest) = next.Grow size
-next_of (_ ∷ rest) = next.End
+next_of (Lock kind ∷ rest) = next.End
+next_of (Unlock ∷ rest) = next.End
+next_of (Died torn ∷ rest) = next.End
 
 -- whether events are left
 abbrev pub stored_of : List What → Stored

@@ -4,7 +4,7 @@ use Rattle.region_words.specs.declared.region.RegionStop.{RegionStop}
 use Rattle.region_words.specs.declared.region.RegionStop.TheVariants.{SizeRefused, Memory}
 use Rattle.region_words.specs.declared.event.Side.TheVariants.{Data, Meta}
 use Rattle.region_words.specs.declared.event.What.{What}
-use Rattle.region_words.specs.declared.event.What.TheVariants.{Store, Grow, Lock, Died}
+use Rattle.region_words.specs.declared.event.What.TheVariants.{Store, Grow, Lock, Unlock, Died}
 use Rattle.region_words.specs.declared.shelf.TheConstants.{LARGEST_DATA, LARGEST_META}
 
 -- the length for which files are refused: the data file's where it is over its limit, else the meta file's
@@ -24,14 +24,22 @@ LiesIn body meta (Store Data word value mark) = 4 * word + 4 ≤ length body
 LiesIn body meta (Store Meta word value mark) = 4 * word + 4 ≤ length meta
 LiesIn body meta (Grow size) = length body < size
 LiesIn body meta (Died (Some torn)) = 4 * torn.word + 4 ≤ length body
-LiesIn body meta _ = ⊤
+LiesIn body meta (Died None) = ⊤
+LiesIn body meta (Lock kind) = ⊤
+LiesIn body meta Unlock = ⊤
 
 -- there is room for what an event adds
 abbrev pub HasBytes : ℕ → What → Type 0
+HasBytes room (Store side word value mark) = ⊤
 HasBytes room (Grow size) = size ≤ room
-HasBytes room _ = ⊤
+HasBytes room (Lock kind) = ⊤
+HasBytes room Unlock = ⊤
+HasBytes room (Died torn) = ⊤
 
 -- the event takes no lock
 abbrev pub IsNoLock : What → Type 0
+IsNoLock (Store side word value mark) = ⊤
+IsNoLock (Grow size) = ⊤
 IsNoLock (Lock kind) = ⊥
-IsNoLock _ = ⊤
+IsNoLock Unlock = ⊤
+IsNoLock (Died torn) = ⊤

@@ -9,7 +9,7 @@ use Rattle.meta_record.specs.declared.shown.Shown.TheVariants.{Last, Damaged}
 use Rattle.region_words.specs.Region.{Region, record_of, payload_of, shown, ShowsMap}
 use Rattle.region_words.specs.Past.{region_after, changes_of, change_of, locks_after, is_death}
 use Rattle.region_words.specs.Apart.{strings}
-use Rattle.region_words.specs.Rows.{Row, Append, SizeRepair}
+use Rattle.region_words.specs.Rows.{Row, Append, Pack, Clear, Enable, Disable, Restore, Discard, Recover, SizeRepair}
 use Rattle.region_words.specs.Lawful.{Phase, Between, Within, Reaches, map_after}
 use Rattle.change_log.specs.declared.change.Change.{Change}
 use Rattle.region_words.specs.declared.event.Side.TheVariants.{Meta}
@@ -24,8 +24,26 @@ AtRest start past = (room : Option ℕ) × Reaches start past (Between room)
 -- the row puts a new image in the old one's place
 abbrev pub is_rewrite : Row → Bool
 is_rewrite (Append a) = false
+is_rewrite (Pack now need) = true
+is_rewrite Clear = true
+is_rewrite (Enable now seconds) = true
+is_rewrite (Disable now) = true
+is_rewrite Restore = true
+is_rewrite Discard = true
+is_rewrite Recover = true
 is_rewrite SizeRepair = false
-is_rewrite _ = true
+
+-- a row that begins in a broken region
+abbrev pub is_repair : Row → Bool
+is_repair (Append a) = false
+is_repair (Pack now need) = false
+is_repair Clear = false
+is_repair (Enable now seconds) = false
+is_repair (Disable now) = false
+is_repair Restore = true
+is_repair Discard = true
+is_repair Recover = true
+is_repair SizeRepair = false
 
 abbrev pub is_some_change : List Change → Bool
 is_some_change [] = false
@@ -45,6 +63,11 @@ abbrev pub IsRewriting : Phase → Type 0
 IsRewriting (Between room) = ⊥
 IsRewriting (Within row rest) =
     IsTrue (is_rewrite row) × IsTrue (not (list_any stores_sequence rest)) × IsTrue (list_any commits rest)
+
+-- a repair is under way, and its change is still to come
+abbrev pub IsRepairing : Phase → Type 0
+IsRepairing (Between room) = ⊥
+IsRepairing (Within row rest) = IsTrue (is_repair row) × IsTrue (list_any commits rest)
 
 -- a death cut a rewrite so, and nothing was committed since
 abbrev pub WasCut : Region → List Event → Type 0

@@ -2,6 +2,7 @@
 use Rattle.std.specs.Prelude.{◌≡◌, ℕ, ◌%◌, ◌^◌, ◌<◌, ◌≤◌, false, List, [], ◌∷◌, Some, length, ⊤}
 use Rattle.kv_pairs.specs.Growth.{largest}
 use Rattle.lock_rules.specs.declared.table.LockKind.TheVariants.{Exclusive}
+use Rattle.lock_rules.specs.declared.limits.TheConstants.{MOST_OPENERS}
 use Rattle.region_words.specs.Region.{Region, IsAccepted, file_size}
 use Rattle.region_words.specs.Past.{region_after, region_step}
 use Rattle.region_words.specs.Rows.{Row}
@@ -11,7 +12,7 @@ use Rattle.region_words.specs.Coming.{IsComing}
 use Rattle.region_words.specs.Told.{History, OnTold}
 use Rattle.region_words.specs.Share.{ShareState, Agrees}
 use Rattle.region_words.specs.declared.event.What.{What}
-use Rattle.region_words.specs.declared.event.What.TheVariants.{Store, Grow}
+use Rattle.region_words.specs.declared.event.What.TheVariants.{Store, Grow, Lock, Unlock, Died}
 use Rattle.region_words.specs.declared.event.Event.{Event}
 
 -- what the exclusive holder may store in this region, whatever the checksums are
@@ -39,8 +40,11 @@ pub record Owes (row : Row) (events : List What) (s : ShareState) (h : History) 
 
 -- it grows the file, if at all, to no more than this size
 abbrev pub IsWithin : ℕ → What → Type 0
+IsWithin room (Store side word value mark) = ⊤
 IsWithin room (Grow size) = size ≤ room
-IsWithin room _ = ⊤
+IsWithin room (Lock kind) = ⊤
+IsWithin room Unlock = ⊤
+IsWithin room (Died torn) = ⊤
 
 -- and so does each of these events
 abbrev pub AreWithin : ℕ → List What → Type 0
@@ -51,7 +55,7 @@ AreWithin room (what ∷ rest) = IsWithin room what × AreWithin room rest
 pub record IsOwing (row : Row) (events : List What) (s : ShareState) : Type 0 where
   pub alive : s.ended ≡ false
   pub holds : s.holds ≡ Some Exclusive
-  pub maker : (1 ≤ s.who) × (s.who ≤ 64)
+  pub maker : (1 ≤ s.who) × (s.who ≤ MOST_OPENERS)
   pub places : length events ≤ s.reserved s.who
   pub room : AreWithin (s.room s.who) events
   pub told : OnTold s.told (Owes row events s)

@@ -1,5 +1,5 @@
 -- A past lists the events so far, the latest first.
-use Rattle.std.specs.Prelude.{◌≡◌, ◌≢◌, ℕ, Bool, true, false, List, [], ◌∷◌, ◌++◌, Some, ◌||◌, ◌&&◌, ◌==◌}
+use Rattle.std.specs.Prelude.{◌≡◌, ◌≢◌, ℕ, Bool, true, false, List, [], ◌∷◌, ◌++◌, Some, None, ◌||◌, ◌&&◌, ◌==◌}
 use Rattle.std.specs.List.{AllByRecursion}
 use Rattle.lock_rules.specs.Locks.{Locks, unlocked, with_lock, without_holder}
 use Rattle.meta_record.specs.Words.{with_word, grown_to}
@@ -21,7 +21,9 @@ region_step r (Store Data word value mark) = with_data_word r word value
 region_step r (Store Meta word value mark) = record r { meta_bytes = with_word r.meta_bytes word value }
 region_step r (Grow size) = record r { data_bytes = grown_to r.data_bytes size }
 region_step r (Died (Some torn)) = with_data_word r torn.word torn.value
-region_step r _ = r
+region_step r (Died None) = r
+region_step r (Lock kind) = r
+region_step r Unlock = r
 
 -- the region after these events
 abbrev pub region_after : Region → List Event → Region
@@ -40,7 +42,10 @@ committed (Commit change) = change ∷ []
 -- the change that an event commits, if any
 abbrev pub change_of : What → List Change
 change_of (Store side word value mark) = committed mark
-change_of _ = []
+change_of (Grow size) = []
+change_of (Lock kind) = []
+change_of Unlock = []
+change_of (Died torn) = []
 
 -- the changes of these events, the first of them first
 abbrev pub changes_of : List Event → List Change
@@ -49,10 +54,11 @@ changes_of (e ∷ past) = changes_of past ++ change_of e.what
 
 -- the locks after an event of this opener
 abbrev pub locks_step : Locks → ℕ → What → Locks
+locks_step locks who (Store side word value mark) = locks
+locks_step locks who (Grow size) = locks
 locks_step locks who (Lock kind) = with_lock locks who kind
 locks_step locks who Unlock = without_holder locks who
 locks_step locks who (Died torn) = without_holder locks who
-locks_step locks who _ = locks
 
 -- who holds the lock after these events
 abbrev pub locks_after : List Event → Locks

@@ -10,6 +10,7 @@ use Rattle.meta_record.specs.declared.record.RecordFault.{RecordFault}
 use Rattle.meta_record.specs.declared.shown.Damage.TheVariants.{Content}
 use Rattle.meta_record.specs.declared.shown.Shown.{Shown}
 use Rattle.meta_record.specs.declared.shown.Shown.TheVariants.{Whole, Header, Last, Damaged}
+use Rattle.region_words.specs.declared.shelf.TheConstants.{LARGEST_META}
 
 -- the bytes of the two files
 pub record Region : Type 0 where
@@ -25,7 +26,7 @@ pub record IsFile (bytes : List ℕ) (limit : ℕ) : Type 0 where
 
 pub record IsRegion (r : Region) : Type 0 where
   pub data_file : IsFile r.data_bytes largest
-  pub meta_file : IsFile r.meta_bytes 65536
+  pub meta_file : IsFile r.meta_bytes LARGEST_META
 
 abbrev pub region_of : List ℕ → List ℕ → Region
 region_of body meta = record { data_bytes = body; meta_bytes = meta }

@@ -137,13 +137,26 @@ act_of_row r SizeRepair = None
 
 -- the flag, the map and the room that a rewrite of the map m leaves
 abbrev pub flag_after : Region → Row → Bool
+flag_after r (Append a) = flag r
+flag_after r (Pack now need) = flag r
+flag_after r Clear = flag r
 flag_after r (Enable now seconds) = true
 flag_after r (Disable now) = false
-flag_after r _ = flag r
+flag_after r Restore = flag r
+flag_after r Discard = flag r
+flag_after r Recover = flag r
+flag_after r SizeRepair = flag r
 
 abbrev pub need_of : Row → ℕ
+need_of (Append a) = 0
 need_of (Pack now need) = need
-need_of _ = 0
+need_of Clear = 0
+need_of (Enable now seconds) = 0
+need_of (Disable now) = 0
+need_of Restore = 0
+need_of Discard = 0
+need_of Recover = 0
+need_of SizeRepair = 0
 
 -- the map that a whole row leaves
 abbrev pub row_map : Region → Map → Row → Map

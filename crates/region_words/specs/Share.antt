@@ -3,6 +3,7 @@ use Rattle.std.specs.Prelude.{◌≡◌, ◌≢◌, ℕ, zero, suc, ◌+◌, ◌
 use Rattle.std.specs.FinSet as set
 use base.Stored.{Gv}
 use Rattle.lock_rules.specs.Locks.{Locks, holds_exclusive, MayTake, IsLeastAgainst}
+use Rattle.lock_rules.specs.declared.limits.TheConstants.{MOST_OPENERS}
 use Rattle.lock_rules.specs.declared.table.LockKind.{LockKind}
 use Rattle.lock_rules.specs.declared.table.LockKind.TheVariants.{Shared, Exclusive}
 use Rattle.lock_rules.specs.declared.table.Tried.{Tried}
@@ -19,13 +20,14 @@ use Rattle.region_words.specs.declared.event.TornWord.{TornWord}
 use Rattle.region_words.specs.declared.event.What.{What}
 use Rattle.region_words.specs.declared.event.What.TheVariants.{Lock, Unlock, Died}
 use Rattle.region_words.specs.declared.event.Event.{Event}
+use Rattle.region_words.specs.declared.places.TheConstants.{MOST_EVENTS}
 use Rattle.region_words.specs.declared.stops.ShareStop.{ShareStop}
 use Rattle.region_words.specs.declared.stops.ShareStop.TheVariants.{Failed, Turn, Memory, JournalFull}
 use Rattle.region_words.specs.declared.stops.TornStore.{TornStore}
 
 -- the events and the kept places that a journal has room for
 abbrev pub most_events : ℕ
-most_events = 4194304
+most_events = MOST_EVENTS
 
 -- how often this opener's calls failed, loaded, were answered Busy, and were answered Turn
 pub record Counts : Type 0 where
@@ -35,9 +37,8 @@ pub record Counts : Type 0 where
   pub turns : ℕ
 
 -- What a share stands for. `admitted`, `reserved` and `room` speak of any opener, as far as the share knows them: who may
--- make events, the places that are reserved, and the size of the data file for which room is kept. `kept` is the number of
--- all places that were kept at the last call that made an event or reserved. `fails` lists the numbers of the calls that
--- are to fail, where that is settled beforehand. `tag` is whatever else no call changes, as a code.
+-- make events, the places that are reserved, and the size of the data file for which room is kept. `fails` lists the
+-- numbers of the calls that are to fail, where that is settled beforehand. `tag` is whatever else no call changes, as a code.
 pub record ShareState : Type 0 where
   pub who : ℕ
   pub told : Option History
@@ -48,7 +49,6 @@ pub record ShareState : Type 0 where
   pub admitted : ℕ → Bool
   pub reserved : ℕ → ℕ
   pub room : ℕ → ℕ
-  pub kept : ℕ
   pub fails : Option (List ℕ)
   pub calls : ℕ
   pub counts : Counts
@@ -76,7 +76,7 @@ places_for admitted reserved past who =
 
 -- the places kept for all openers
 abbrev pub places_kept : (ℕ → Bool) → (ℕ → ℕ) → List Event → ℕ
-places_kept admitted reserved past = total (places_for admitted reserved past) 64
+places_kept admitted reserved past = total (places_for admitted reserved past) MOST_OPENERS
 
 -- what a share says of itself is what its history says
 pub record Agrees (s : ShareState) (h : History) : Type 0 where
@@ -84,12 +84,11 @@ pub record Agrees (s : ShareState) (h : History) : Type 0 where
   pub lawful : Lawful h.start h.past
   pub holds : lock_of (locks_after h.past) s.who ≡ s.holds
   pub ended : s.ended ≡ (not (s.admitted s.who) || has_died h.past s.who)
-  pub kept : s.alone ≡ true → s.kept ≡ places_kept s.admitted s.reserved h.past
-  pub few : s.alone ≡ true → length h.past + s.kept ≤ most_events
+  pub few : s.alone ≡ true → length h.past + places_kept s.admitted s.reserved h.past ≤ most_events
 
 -- whatever a share tells: its opener's number, and that only who holds exclusive has places or room reserved
 pub record IsSound (s : ShareState) : Type 0 where
-  pub maker : (1 ≤ s.who) × (s.who ≤ 64)
+  pub maker : (1 ≤ s.who) × (s.who ≤ MOST_OPENERS)
   pub unreserved : s.holds ≢ Some Exclusive → (s.reserved s.who ≡ 0) × (s.room s.who ≡ 0)
   pub told : OnTold s.told (Agrees s)
 
@@ -242,13 +241,15 @@ Stops Turn old new = IsTurnedAway old new
 Stops Memory old new = ⊥
 Stops JournalFull old new = ⊥
 
--- events and kept places, with so many more, are too many for the journal
+-- Events and kept places, with so many more, are too many for the journal. A share may know nothing of what others reserved
+-- and yet count all kept places: only who holds exclusive has any reserved, places are reserved by who holds exclusive, and
+-- they are counted for a try where no lock stands against it. So at each moment at which they are counted nobody else has any.
 abbrev pub IsFull : ℕ → ShareState → Type 0
-IsFull asked s = TellsThat s.told (λ h. most_events < length h.past + s.kept + asked)
+IsFull asked s = TellsThat s.told (λ h. most_events < length h.past + places_kept s.admitted s.reserved h.past + asked)
 
 -- they are not too many
 abbrev pub HasRoom : ShareState → Type 0
-HasRoom s = OnTold s.told (λ h. length h.past + s.kept ≤ most_events)
+HasRoom s = OnTold s.told (λ h. length h.past + places_kept s.admitted s.reserved h.past ≤ most_events)
 
 -- a call that reserves places, and was not answered
 abbrev pub StopsReserving : ℕ → ShareStop → ShareState → ShareState → Type 0

@@ -1,6 +1,7 @@
 // The laws of a region that several openers change: each is the contract of a function that does nothing.
 ghost use Rattle.region_words.specs.Laws.{FrontsAreLawful, FrontsAreApart, StaysARegion, StaysAccepted, RestsWhereFree, HoldersSeeOneRegion};
 ghost use Rattle.region_words.specs.Laws.{ShowsHistoryAtRest, ShowsHistoryWhereFree, ShowsHistoryAfterACutAppend, LastIsConfirmed, LastHasTheHistory, LastIsRestored};
+ghost use Rattle.region_words.specs.Laws.{ShowsHistoryAfterACut, ShowsHistoryOrBreaks, RowsEndWhole, RestoresShowTheLastImage};
 ghost use Rattle.region_words.specs.Laws.{AppendIsMadeFromItsStanding, PackIsMadeFromItsStanding, ClearIsMadeFromItsStanding, EnableIsMadeFromItsStanding, DisableIsMadeFromItsStanding};
 ghost use Rattle.region_words.specs.Laws.{PackedIsBytes, ShownMapsCanBePacked, AppendsCanBePacked, RewritesCanBePacked};
 ghost use Rattle.region_words.specs.Laws.{AppendLeavesItsStanding, WriteBackLeavesItsStanding, SwitchLeavesItsStanding, RecoverLeavesItsStanding};
@@ -40,7 +41,26 @@ pub fn a_cut_append_shows_its_history()
     ensures { ShowsHistoryAfterACutAppend }
 {}
 
-/// Where the last confirmed image is shown, it is the one whose checksum was confirmed last, and it is restored next.
+/// A death that cuts a row before the store of its sequence, or from its mark on, leaves the map of the history. Between them,
+/// and before the mark of a repair, it leaves that map, the last confirmed image, or damage.
+pub fn a_cut_row_shows_its_history()
+    ensures history { ShowsHistoryAfterACut }
+    ensures rewrite { ShowsHistoryOrBreaks }
+{}
+
+/// Whatever a region showed before, it shows a whole image after the last store of a row.
+pub fn a_whole_row_shows_a_whole_image()
+    ensures { RowsEndWhole }
+{}
+
+/// A death that cuts a restore before its mark leaves the same last confirmed image, which is restored next, or the map of the
+/// history.
+pub fn a_cut_restore_shows_the_last_image()
+    ensures { RestoresShowTheLastImage }
+{}
+
+/// Where the last confirmed image is shown, it is the one whose checksum was confirmed last, if one was: the last confirmed words
+/// were stored in this run, or agreed with the payload at its start. It is restored next.
 pub fn the_last_confirmed_image_is_shown()
     ensures image { LastIsConfirmed }
     ensures map { LastHasTheHistory }

@@ -34,12 +34,13 @@ pub use event::{Event, Mark, Side, TornWord, What};
 pub use failing::Failing;
 pub use id::is_id;
 pub use laws::{
-    a_cut_append_shows_its_history, a_holder_sees_one_region, a_partial_load_that_holds_is_whole,
+    a_cut_append_shows_its_history, a_cut_restore_shows_the_last_image,
+    a_cut_row_shows_its_history, a_holder_sees_one_region, a_partial_load_that_holds_is_whole,
     a_region_at_rest_shows_its_history, a_region_stays_a_region, a_row_is_made_from_its_standing,
-    a_row_leaves_its_standing, an_equal_sequence_tells_that_the_image_stands,
-    equal_peeks_tell_that_nothing_changed, no_row_is_under_way_where_nobody_holds_exclusive,
-    the_last_confirmed_image_is_shown, what_holds_of_a_journal_holds_of_its_fronts,
-    what_is_packed_is_bytes,
+    a_row_leaves_its_standing, a_whole_row_shows_a_whole_image,
+    an_equal_sequence_tells_that_the_image_stands, equal_peeks_tell_that_nothing_changed,
+    no_row_is_under_way_where_nobody_holds_exclusive, the_last_confirmed_image_is_shown,
+    what_holds_of_a_journal_holds_of_its_fronts, what_is_packed_is_bytes,
 };
 pub use listed_events::ListedEvents;
 pub use mem_shelf::{MemShelf, Shelved};

@@ -8,6 +8,7 @@ ghost use Rattle.region_words.specs.Local.{Local, IsLocal, TakesPlace, HasRoomTo
 ghost use Rattle.region_words.specs.Stores.{filled_up};
 ghost use Rattle.region_words.specs.Opening.{Refuses, size_over, LiesIn, HasBytes, IsNoLock};
 ghost use Rattle.region_words.specs.Past.{region_step, locks_step, change_of};
+ghost use Rattle.lock_rules.specs.declared.limits.TheConstants.{MOST_OPENERS};
 ghost use Rattle.lock_rules.specs.Locks.{MayTake};
 ghost use Rattle.meta_record.specs.Words.{grown_to, torn};
 
@@ -140,7 +141,7 @@ impl LocalRegion {
     /// Lets an opener make events, and keeps a place for its death.
     pub fn admit(&mut self, who: u32) -> Result<(), AdmitStop>
         requires least { 1 ≤ who }
-        requires most { who ≤ 64 }
+        requires most { who ≤ MOST_OPENERS }
         requires new { (account_of self.old.accounts who).admitted ≡ false }
         ensures ok { OnOk result (self.new ≡ with_account self.old who (after_admission (account_of self.old.accounts who))) }
         ensures admitted { OnOk result ((account_of self.new.accounts who).admitted ≡ true) }
@@ -203,7 +204,7 @@ impl LocalRegion {
     // Counts one more load.
     pub(crate) fn count_load(&mut self, who: u32)
         requires least { 1 ≤ who }
-        requires most { who ≤ 64 }
+        requires most { who ≤ MOST_OPENERS }
         ensures { self.new ≡ with_account self.old who (after_load (account_of self.old.accounts who)) }
     {
         let account = self.accounts[who as usize];
@@ -216,7 +217,7 @@ impl LocalRegion {
     // Counts one more answer Busy.
     pub(crate) fn count_busy(&mut self, who: u32)
         requires least { 1 ≤ who }
-        requires most { who ≤ 64 }
+        requires most { who ≤ MOST_OPENERS }
         ensures { self.new ≡ with_account self.old who (after_refusal (account_of self.old.accounts who)) }
     {
         let account = self.accounts[who as usize];
@@ -229,7 +230,7 @@ impl LocalRegion {
     // Counts one more fault.
     pub(crate) fn count_fault(&mut self, who: u32)
         requires least { 1 ≤ who }
-        requires most { who ≤ 64 }
+        requires most { who ≤ MOST_OPENERS }
         ensures { self.new ≡ with_account self.old who (after_fault (account_of self.old.accounts who)) }
     {
         let account = self.accounts[who as usize];
@@ -242,7 +243,7 @@ impl LocalRegion {
     // Keeps more places, and room for a data file of this size.
     pub(crate) fn reserve(&mut self, who: u32, events: u32, size: u32) -> Result<(), AdmitStop>
         requires least { 1 ≤ who }
-        requires most { who ≤ 64 }
+        requires most { who ≤ MOST_OPENERS }
         requires held { lock_after self.old.past who ≡ Some LockKind.Exclusive }
         ensures ok { OnOk result (self.new ≡ with_account self.old who (after_reserve events size (account_of self.old.accounts who))) }
         ensures room { OnOk result (length self.old.past + kept_in self.old.accounts + events ≤ most_events) }
@@ -264,7 +265,7 @@ impl LocalRegion {
     // Takes the lock, unless another stands against it or the journal has no place.
     pub(crate) fn lock(&mut self, who: u32, kind: LockKind) -> Result<Tried, AdmitStop>
         requires least { 1 ≤ who }
-        requires most { who ≤ 64 }
+        requires most { who ≤ MOST_OPENERS }
         requires free { lock_after self.old.past who ≡ None }
         requires alive { has_died self.old.past who ≡ false }
         requires living { 0 < (account_of self.old.accounts who).kept }
@@ -289,7 +290,7 @@ impl LocalRegion {
     // A failed call: the death of its opener, and one fault more.
     pub(crate) fn fail(&mut self, who: u32)
         requires least { 1 ≤ who }
-        requires most { who ≤ 64 }
+        requires most { who ≤ MOST_OPENERS }
         requires lawful { Lawful self.old.start (event_of who (What.Died None) ∷ self.old.past) }
         requires living { 0 < (account_of self.old.accounts who).kept }
         ensures { self.new ≡ with_fault (with_event self.old who (What.Died None)) who }
@@ -397,7 +398,7 @@ fn commits(what: &What) -> u32
 // What an event does to the locks, but for a lock that is taken.
 fn relock(locks: &mut LockTable, who: u32, what: &What)
     requires least { 1 ≤ who }
-    requires most { who ≤ 64 }
+    requires most { who ≤ MOST_OPENERS }
     requires other { IsNoLock what.now }
     ensures { locks.new ≡ locks_step locks.old who what.now }
 {

@@ -1,5 +1,6 @@
 // A seat at a region in memory: a share that owns it.
 ghost use Rattle.std.specs.Prelude.{◌≡◌, ◌+◌, ◌<◌, ◌≤◌, false, true, [], Some, None, length, IfErr, IfSome, OnOk};
+ghost use Rattle.lock_rules.specs.declared.limits.TheConstants.{MOST_OPENERS};
 ghost use Rattle.region_words.specs.Stores.{filled_up};
 ghost use Rattle.region_words.specs.Share.{IsNotDue, Fails, MayMake, MayTearAt, most_events};
 ghost use Rattle.region_words.specs.Local.{Seated, IsLocal, LacksPlaces, seat_state, seat_called, account_of, with_account, after_admission, kept_in, stop_of};
@@ -25,20 +26,21 @@ pub struct LocalSeat {
 
 impl Model for LocalSeat {
     ghost use Rattle.std.specs.Prelude.{◌≤◌};
+    ghost use Rattle.lock_rules.specs.declared.limits.TheConstants.{MOST_OPENERS};
     ghost use Rattle.region_words.specs.Local.{Seated};
 
     ghost Value = { Seated };
 
     ghost view = { λ s. record { who = s.who; region = s.region } };
 
-    ghost invariant = { λ s. (1 ≤ s.who) × (s.who ≤ 64) };
+    ghost invariant = { λ s. (1 ≤ s.who) × (s.who ≤ MOST_OPENERS) };
 }
 
 impl LocalRegion {
     /// A share that owns the region and makes its calls as this opener. As long as the opener isn't admitted, it is ended.
     pub fn seat(self, who: u32) -> LocalSeat
         requires least { 1 ≤ who }
-        requires most { who ≤ 64 }
+        requires most { who ≤ MOST_OPENERS }
         ensures { result ≡ record { who = who; region = self } }
     {
         LocalSeat { region: self, who }
@@ -49,7 +51,7 @@ impl LocalSeat {
     /// The later calls are those of this opener.
     pub fn turn_to(&mut self, who: u32)
         requires least { 1 ≤ who }
-        requires most { who ≤ 64 }
+        requires most { who ≤ MOST_OPENERS }
         ensures { self.new ≡ record self.old { who = who } }
     {
         self.who = who;
@@ -58,7 +60,7 @@ impl LocalSeat {
     /// Lets an opener make events, and keeps a place for its death.
     pub fn admit(&mut self, who: u32) -> Result<(), AdmitStop>
         requires least { 1 ≤ who }
-        requires most { who ≤ 64 }
+        requires most { who ≤ MOST_OPENERS }
         requires new { (account_of self.old.region.accounts who).admitted ≡ false }
         ensures ok { OnOk result (self.new ≡ record self.old { region = with_account self.old.region who (after_admission (account_of self.old.region.accounts who)) }) }
         ensures admitted { OnOk result ((account_of self.new.region.accounts who).admitted ≡ true) }
@@ -89,7 +91,7 @@ impl LocalSeat {
         ensures ok { OnOk result (self.new ≡ seat_called self.old) }
         ensures due { OnOk result (IsNotDue (seat_state self.old)) }
         ensures good { OnOk result (IsLocal self.old.region) }
-        ensures maker { OnOk result ((1 ≤ self.old.who) × (self.old.who ≤ 64)) }
+        ensures maker { OnOk result ((1 ≤ self.old.who) × (self.old.who ≤ MOST_OPENERS)) }
         ensures err { IfErr result (λ stop. (stop ≡ ShareStop.Failed) × Fails (seat_state self.old) (seat_state self.new)) }
     {
         if self.region.next_fails() {

@@ -4,10 +4,11 @@ ghost use Rattle.region_words.specs.Outside.{Rose};
 ghost use Rattle.region_words.specs.Stores.{IsId, Told, IsDueOrRefused};
 
 use expiring_map::Bytes;
+use kv_pairs::LARGEST_FILE;
 use thiserror::Error;
 
 /// The greatest length of a data file, in bytes.
-pub const LARGEST_DATA: usize = 67_108_864;
+pub const LARGEST_DATA: usize = LARGEST_FILE as usize;
 
 /// The greatest length of a meta file, in bytes.
 pub const LARGEST_META: usize = 65_536;

@@ -4,7 +4,7 @@ use Rattle.std.specs.Prelude.{◌&&◌, if◌then◌else◌}
 use Rattle.std.proofs.lemmas.List.Elements.{All-nil}
 use Rattle.change_log.specs.declared.call.Answer.{Answer}
 use Rattle.region_words.specs.Lawful.{Lawful}
-use Rattle.region_words.specs.Local.{Local, Seated, account_of, kept_in, no_account, reserved_in}
+use Rattle.region_words.specs.Local.{Local, Seated, account_of, no_account, reserved_in}
 use Rattle.region_words.specs.Past.{NoneOf, has_died, locks_after}
 use Rattle.region_words.specs.Region.{IsAccepted}
 use Rattle.region_words.specs.Share.{lock_of, places_for, places_kept, unlock_place}
@@ -20,14 +20,6 @@ none_in (suc n) zero = refl
 none_in (suc n) (suc who) = none_in n who
 
 -- so no place is kept
-no_account_there : (n who : ℕ) → account_of (replicate n no_account) who ≡ no_account
-no_account_there zero who = refl
-no_account_there (suc n) zero = refl
-no_account_there (suc n) (suc who) = no_account_there n who
-
-none_kept : (accounts : List Account) → accounts ≡ replicate 65 no_account → kept_in accounts ≡ 0
-none_kept accounts fresh = ap kept_in fresh ∙ total_none (λ w. (account_of (replicate 65 no_account) w).kept) 64 (λ w. ap (λ (a : Account). a.kept) (no_account_there 65 w))
-
 no_places : (accounts : List Account) (reserved : ℕ → ℕ) (past : List Event) → accounts ≡ replicate 65 no_account → places_kept (λ w. (account_of accounts w).admitted) reserved past ≡ 0
 no_places accounts reserved past fresh =
     total_none (places_for (λ w. (account_of accounts w).admitted) reserved past) 64
@@ -51,6 +43,5 @@ world_of_none l s is past accounts accepted =
         unanswered = refl;
       };
       theirs = All-nil (λ (a : Answer). (1 ≤ a.who) × (a.who ≤ 0));
-      kept = none_kept l.accounts accounts ∙ sym (no_places l.accounts (reserved_in l) l.past accounts);
-      roomy = omega (arith, none_kept l.accounts accounts, ap length past);
+      roomy = omega (arith, no_places l.accounts (reserved_in l) l.past accounts, ap length past);
     })

@@ -44,7 +44,7 @@ pub record Stays (who : ℕ) (l k : Local) : Type 0 where
 
 -- what the shares of two openers say of the region is the same
 pub agrees_with : (l : Local) (who other : ℕ) → Agrees (share_of l who) (history_of l) → Agrees (share_of l other) (history_of l)
-agrees_with l who other a = record { region = a.region; lawful = a.lawful; holds = refl; ended = refl; kept = a.kept; few = a.few }
+agrees_with l who other a = record { region = a.region; lawful = a.lawful; holds = refl; ended = refl; few = a.few }
 
 none_made : (maker who : ℕ) (own : List What) → maker ≢ who → NoneOf who (made_by maker own)
 none_made maker who [] n = tt

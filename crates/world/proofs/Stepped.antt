@@ -124,7 +124,6 @@ stepped l k openers answers i o next came world at makes tied settles keeps =
           (world.unused who (omega (arith, above, len)));
       theirs = subst (λ n. All (IsOfOne n) (answers ++ answers_by came)) (sym len)
           (All-append (IsOfOne (length openers)) answers (answers_by came) world.theirs (answered_by (i + 1) (length openers) came (omega arith) (omega (arith, inside)) own));
-      kept = tied.told.agrees.kept refl;
       roomy = tied.told.agrees.few refl;
     }
   where
@@ -164,7 +163,6 @@ began l openers answers i o next world at tied settles =
       each = λ j p is. each j p is (eqb_tells i j);
       unused = λ who above. world.unused who (omega (arith, above, len));
       theirs = subst (λ n. All (IsOfOne n) answers) (sym len) world.theirs;
-      kept = world.kept;
       roomy = world.roomy;
     }
   where
@@ -208,7 +206,6 @@ opened l k openers answers a world room is tied =
       unused = λ w above.
           unused_later l k answers answers w (stays w (λ e. absurd (omega (arith, e, above, len)))) refl (world.unused w (omega (arith, above, len)));
       theirs = All-weaker (IsOfOne (length openers)) (IsOfOne (length (openers ++ new_opener who ∷ []))) (λ b own. (own.0, omega (arith, own.1, len))) answers world.theirs;
-      kept = tied.told.agrees.kept refl;
       roomy = tied.told.agrees.few refl;
     }
   where

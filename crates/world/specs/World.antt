@@ -3,10 +3,10 @@ use Rattle.std.specs.Prelude.{◌≡◌, ℕ, ◌+◌, ◌-◌, ◌<◌, ◌≤�
 use Rattle.change_log.specs.EachCaller.{answers_of}
 use Rattle.change_log.specs.declared.call.Answer.{Answer}
 use Rattle.region_words.specs.Lawful.{Lawful}
-use Rattle.region_words.specs.Local.{Local, account_of, kept_in, reserved_in, seat_state}
+use Rattle.region_words.specs.Local.{Local, account_of, kept_after, seat_state}
 use Rattle.region_words.specs.Past.{NoneOf}
 use Rattle.region_words.specs.Region.{IsAccepted}
-use Rattle.region_words.specs.Share.{ShareState, most_events, places_kept}
+use Rattle.region_words.specs.Share.{ShareState, most_events}
 use Rattle.region_words.specs.Told.{History}
 use Rattle.opener.specs.Opener.{Tied, is_ended}
 use Rattle.opener.specs.Settles.{AreSettled}
@@ -53,9 +53,8 @@ pub record IsWorld (l : Local) (openers : List OpenerState) (answers : List Answ
   pub each : (i : ℕ) (o : OpenerState) → slice_get openers i ≡ Some o → OpenerIs l answers (i + 1) o
   pub unused : (who : ℕ) → length openers < who → IsUnused l answers who
   pub theirs : All (λ a. (1 ≤ a.who) × (a.who ≤ length openers)) answers
-  -- the places that are kept are those for the openers, and the journal has room for them
-  pub kept : kept_in l.accounts ≡ places_kept (λ w. (account_of l.accounts w).admitted) (reserved_in l) l.past
-  pub roomy : length l.past + kept_in l.accounts ≤ most_events
+  -- the journal has room for the events and the places that are kept for the openers
+  pub roomy : length l.past + kept_after l ≤ most_events
 
 -- and so of this one
 abbrev pub IsSound : WorldState → Type 0

@@ -16,8 +16,8 @@ loop-size-preserved c =
       same = i.same ∙ double_on c.args.wanted c.loop-size.size i.least (omega arith) (omega arith) ∙ ap (grown_to c.args.wanted) twice;
     }
 
-pub returns-then-size-gt-LARGEST-clause-value : goal.returns-then-size-gt-LARGEST-clause-value
-returns-then-size-gt-LARGEST-clause-value c =
+pub returns-then-size-gt-LARGEST_FILE-clause-value : goal.returns-then-size-gt-LARGEST_FILE-clause-value
+returns-then-size-gt-LARGEST_FILE-clause-value c =
     sym (c.loop-size.invariant.same ∙ double_stops c.args.wanted c.loop-size.size (omega arith) (omega arith))
 
 pub returns-clause-value : goal.returns-clause-value

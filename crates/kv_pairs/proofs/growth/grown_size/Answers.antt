@@ -3,8 +3,8 @@ use Rattle.kv_pairs.specs.Growth.{grown_to}
 use Rattle.kv_pairs.proofs.Doubling.{no_room, room}
 use Rattle.kv_pairs.proofs.growth.grown_size.Goals as goal
 
-pub returns-then-needs-gt-LARGEST-clause-value : goal.returns-then-needs-gt-LARGEST-clause-value
-returns-then-needs-gt-LARGEST-clause-value c = sym (no_room c.args.packed c.args.need c.args.pairs c.args.file (omega arith))
+pub returns-then-needs-gt-LARGEST_FILE-clause-value : goal.returns-then-needs-gt-LARGEST_FILE-clause-value
+returns-then-needs-gt-LARGEST_FILE-clause-value c = sym (no_room c.args.packed c.args.need c.args.pairs c.args.file (omega arith))
 
 pub returns-clause-value : goal.returns-clause-value
 returns-clause-value c =

@@ -5,8 +5,9 @@ use Rattle.std.proofs.lemmas.List.{reverse-append, length-reverse}
 use Rattle.lock_rules.specs.Locks.{Locks, MayTake, IsLeastAgainst, holds, with_lock, without_holder}
 use Rattle.region_words.specs.Past.{locks_after, has_died}
 use Rattle.region_words.specs.declared.event.What.TheVariants.{Lock}
-use Rattle.region_words.specs.Local.{Local, HasPlace, account_of, lock_after}
+use Rattle.region_words.specs.Local.{Local, HasPlace, LacksPlaces, account_of, lock_after}
 use Rattle.region_words.specs.Inside.{local_of}
+use Rattle.region_words.proofs.Accounts.{lacks_places}
 use Rattle.region_words.proofs.LockOf.{holds_none, holds_some, lock_with, taken_back}
 use Rattle.region_words.proofs.Permits.{may_lock}
 use Rattle.region_words.proofs.Keeping.{keeps_event, keeps_wider}
@@ -54,3 +55,9 @@ invariant_of-self-2 c =
     refl refl after (omega arith) (omega arith)
     (omega (arith, c.in_default-make_room.ensures.room, c.self.inside.journal.ok.0, len, c.note_event.ensures.capacity))
     room (omega arith))
+
+pub returns-in-Err-clause-err : goal.returns-in-Err-clause-err
+returns-in-Err-clause-err c =
+    let len = length-reverse c.self.inside.journal.items in
+    subst (λ (l : Local). LacksPlaces l 2 c.in-Err.stop) c.self.view_is
+    (lacks_places (local_of c.self.inside) c.self.invariant.good 2 _ c.in-Err.stop c.in-Err.ensures.err (omega (arith, c.self.inside.journal.ok.0, len, c.self.invariant.kept_is)))

@@ -2,9 +2,10 @@ use Rattle.lock_rules.specs.declared.table.LockKind.TheVariants.{Exclusive}
 use Rattle.std.proofs.Common.{◌≡◌, ◌+◌, reverse, sym, subst, arith}
 use Rattle.std.specs.Prelude.{Some}
 use Rattle.std.proofs.lemmas.List.{length-reverse}
-use Rattle.region_words.specs.Local.{Local, account_of, lock_after, after_reserve}
+use Rattle.std.proofs.lemmas.Result.{err_from_is_err_and}
+use Rattle.region_words.specs.Local.{Local, LacksPlaces, account_of, lock_after, after_reserve}
 use Rattle.region_words.specs.Inside.{local_of}
-use Rattle.region_words.proofs.Accounts.{reserved_account}
+use Rattle.region_words.proofs.Accounts.{reserved_account, lacks_places}
 use Rattle.region_words.proofs.Keeping.{own_places, keeps_account}
 use Rattle.region_words.proofs.region.LocalRegion.reserve.Goals as goal
 
@@ -26,3 +27,12 @@ invariant_of-self-2 c =
     (omega (arith, c.in_ok-make_room.ensures.few, c.self.inside.journal.ok.0, len))
     (omega (arith, c.in_ok-make_room.ensures.room, c.self.inside.journal.ok.0, len))
     (omega (arith, room, c.make_bytes.ensures.capacity, c.in_ok-make_bytes.ensures.room)) c.make_bytes.ensures.capacity)
+
+pub returns-in_err-make_room-clause-err : goal.returns-in_err-make_room-clause-err
+returns-in_err-make_room-clause-err c =
+    let p = err_from_is_err_and c.from_residual.result c.from_residual.ensures.1 in
+    let stop = c.in_err-make_room.field-0.0 in
+    let len = length-reverse c.self.inside.journal.items in
+    rw (p.1, p.2)
+    (subst (λ (l : Local). LacksPlaces l c.args.events stop) c.self.view_is
+    (lacks_places (local_of c.self.inside) c.self.invariant.good c.args.events _ stop c.in_err-make_room.ensures.err (omega (arith, c.self.inside.journal.ok.0, len, c.self.invariant.kept_is))))

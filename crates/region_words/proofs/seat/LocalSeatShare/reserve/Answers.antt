@@ -1,6 +1,7 @@
 use Rattle.std.proofs.Common.{◌+◌, ◌≤◌, length, sym, subst, ◌∙◌}
 use Rattle.region_words.specs.Share.{Goes, StopsReserving, HasRoom, most_events, reserving}
 use Rattle.region_words.specs.Local.{Seated, seat_state, seat_reserved, kept_in, LacksPlaces, stop_of}
+use Rattle.region_words.proofs.Accounts.{kept_few}
 use Rattle.region_words.proofs.SeatCalls.{local_reserving, stops_reserving, after_reserving}
 use Rattle.region_words.proofs.seat.LocalSeatShare.reserve.Goals as goal
 
@@ -23,7 +24,7 @@ returns-clause-room c =
     let maker = c.in_ok-begin.ensures.maker in
     let few = subst (λ (t : Seated). length t.region.past + kept_in t.region.accounts + c.args.events ≤ most_events) e c.in_default.ensures.room in
     rw c.in_default.ensures.ok
-    (subst (λ (t : Seated). HasRoom (seat_state (seat_reserved c.args.events c.args.size t))) (sym e) (local_reserving s.who s.region is maker c.args.events c.args.size c.requires.held few).few)
+    (subst (λ (t : Seated). HasRoom (seat_state (seat_reserved c.args.events c.args.size t))) (sym e) (kept_few _ (local_reserving s.who s.region is maker c.args.events c.args.size c.requires.held few)))
 
 pub returns-in-Err-clause-err : goal.returns-in-Err-clause-err
 returns-in-Err-clause-err c =

@@ -5,6 +5,7 @@ use Rattle.region_words.specs.Past.{locks_after}
 use Rattle.region_words.specs.Share.{Goes, StopsTrying, HasRoom, most_events, refused, locked}
 use Rattle.region_words.specs.Local.{Seated, HasPlace, seat_state, seat_refused, seat_made, kept_in, TriedIn, LacksPlaces, stop_of}
 use Rattle.region_words.specs.declared.event.What.TheVariants.{Lock}
+use Rattle.region_words.proofs.Accounts.{kept_few}
 use Rattle.region_words.proofs.Permits.{may_lock}
 use Rattle.region_words.proofs.SeatCalls.{living, local_made, stops_trying, after_refusing, after_lock}
 use Rattle.region_words.proofs.seat.LocalSeatShare.try_lock.Goals as goal
@@ -24,7 +25,7 @@ returns-in-Ok-Taken-clause-ok c =
     let place : HasPlace s.region s.who (Lock c.args.kind) = record { kept = live.1; room = few } in
     rw t.0
     (subst (λ (x : Seated). Goes (locked c.args.kind (seat_state s)) (seat_state s) (seat_state (seat_made (Lock c.args.kind) x)) × HasRoom (seat_state (seat_made (Lock c.args.kind) x))) (sym e)
-    (record { after = after_lock s.who s.region is maker c.args.kind may lawful place; not_due = c.in_ok-begin.ensures.due }, (local_made s.who s.region is maker false (Lock c.args.kind) lawful place).few))
+    (record { after = after_lock s.who s.region is maker c.args.kind may lawful place; not_due = c.in_ok-begin.ensures.due }, kept_few _ (local_made s.who s.region is maker false (Lock c.args.kind) lawful place)))
 
 pub returns-in-Ok-Busy-clause-ok : goal.returns-in-Ok-Busy-clause-ok
 returns-in-Ok-Busy-clause-ok c =
