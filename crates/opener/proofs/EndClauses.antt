@@ -12,7 +12,7 @@ use Rattle.opener.specs.Calls.{IsPlain, holds_after}
 use Rattle.opener.specs.Continues.{SameCall}
 use Rattle.opener.specs.Ends.{Finishes, GoesOn, Leaves, LeavesBy, answer_of}
 use Rattle.opener.specs.Opener.{HasCause, HasReason, KeepsCall, MakesOne, MayEnd, OnAnswer, stop_found}
-use Rattle.opener.specs.Steps.{CarriesOut, KeepsImage, still_looks}
+use Rattle.opener.specs.Steps.{ActsAt, KeepsImage, still_looks}
 use Rattle.opener.specs.declared.calls.Step.{Step}
 use Rattle.opener.specs.declared.calls.Step.TheVariants as step
 use Rattle.opener.specs.declared.calls.Stop.{Stop}
@@ -113,24 +113,24 @@ leaves_cause old next how ended mid result new s t none reason leaves = go next.
     go (Some kind) (end.Stop stop) reason is =
         subst (λ r. HasCause old r new.work s t) (sym is.0) (subst (λ (n : OpenerState). HasCause old step.Going n.work s t) (sym is.1) reason)
 
--- what it carries out where it goes on is carried out
-pub going_carries : (here : Stage) (next : Running) (stage : Stage) (mid : OpenerState) (result : Step) (new : OpenerState) (s t : ShareState) → CarriesOut step.Going here (Runs next stage) s t →
-    GoesOn next stage mid result new → CarriesOut result here new.work s t
-going_carries here next stage mid result new s t carried on =
-    subst (λ r. CarriesOut r here new.work s t) (sym on.0) (subst (λ (n : OpenerState). CarriesOut step.Going here n.work s t) (sym on.1) carried)
+-- what it did at its stage where it goes on
+pub going_acts : (here : Stage) (old : Option Image) (next : Running) (stage : Stage) (mid : OpenerState) (result : Step) (new : OpenerState) (s t : ShareState) → ActsAt step.Going here old (Runs next stage) s t →
+    GoesOn next stage mid result new → ActsAt result here old new.work s t
+going_acts here old next stage mid result new s t carried on =
+    subst (λ r. ActsAt r here old new.work s t) (sym on.0) (subst (λ (n : OpenerState). ActsAt step.Going here old n.work s t) (sym on.1) carried)
 
-pub finishes_carries : (here : Stage) (next : Running) (how : End) (ended : ℕ) (mid : OpenerState) (result : Step) (new : OpenerState) (s t : ShareState) →
-    ((a : Answer) → CarriesOut (step.Answered a) here new.work s t) → Finishes next how ended mid result new → CarriesOut result here new.work s t
-finishes_carries here next (end.Answer place reply) ended mid result new s t carried is = subst (λ r. CarriesOut r here new.work s t) (sym is.0) (carried (answer_of mid.who next place ended reply))
-finishes_carries here next (end.Stop stop) ended mid result new s t carried is = subst (λ r. CarriesOut r here new.work s t) (sym is.0) tt
+pub finishes_acts : (here : Stage) (old : Option Image) (next : Running) (how : End) (ended : ℕ) (mid : OpenerState) (result : Step) (new : OpenerState) (s t : ShareState) →
+    ((a : Answer) → ActsAt (step.Answered a) here old new.work s t) → Finishes next how ended mid result new → ActsAt result here old new.work s t
+finishes_acts here old next (end.Answer place reply) ended mid result new s t carried is = subst (λ r. ActsAt r here old new.work s t) (sym is.0) (carried (answer_of mid.who next place ended reply))
+finishes_acts here old next (end.Stop stop) ended mid result new s t carried is = subst (λ r. ActsAt r here old new.work s t) (sym is.0) tt
 
-pub leaves_carries : (here : Stage) (next : Running) (how : End) (ended : ℕ) (mid : OpenerState) (result : Step) (new : OpenerState) (s t : ShareState) →
-    CarriesOut step.Going here (Runs next (Unlock how)) s t → ((a : Answer) → CarriesOut (step.Answered a) here new.work s t) → Leaves next how ended mid result new → CarriesOut result here new.work s t
-leaves_carries here next how ended mid result new s t goes answers leaves = go next.taken leaves
+pub leaves_acts : (here : Stage) (old : Option Image) (next : Running) (how : End) (ended : ℕ) (mid : OpenerState) (result : Step) (new : OpenerState) (s t : ShareState) →
+    ActsAt step.Going here old (Runs next (Unlock how)) s t → ((a : Answer) → ActsAt (step.Answered a) here old new.work s t) → Leaves next how ended mid result new → ActsAt result here old new.work s t
+leaves_acts here old next how ended mid result new s t goes answers leaves = go next.taken leaves
   where
-    go : (taken : Option LockKind) → LeavesBy taken next how ended mid result new → CarriesOut result here new.work s t
-    go None is = finishes_carries here next how ended mid result new s t answers is
-    go (Some kind) is = going_carries here next (Unlock how) mid result new s t goes is
+    go : (taken : Option LockKind) → LeavesBy taken next how ended mid result new → ActsAt result here old new.work s t
+    go None is = finishes_acts here old next how ended mid result new s t answers is
+    go (Some kind) is = going_acts here old next (Unlock how) mid result new s t goes is
 
 -- and the image is kept on
 pub going_image : (here : Stage) (next : Running) (stage : Stage) (mid : OpenerState) (old : Option Image) (result : Step) (new : OpenerState) (t : ShareState) →

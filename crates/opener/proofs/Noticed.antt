@@ -22,8 +22,10 @@ use Rattle.region_words.proofs.Notices.{lock_free_read, kept_at_rest, still_whol
 use Rattle.region_words.proofs.ReadLaws.{apart_front, changes_more}
 use Rattle.region_words.proofs.RowsStand.{agrees_crc}
 use Rattle.region_words.proofs.Shows.{whole_shown}
+use Rattle.region_words.proofs.Telling.{told_map}
 use Rattle.loader.specs.declared.loaded.Image.{Image}
 use Rattle.opener.specs.State.{OpenerState}
+use Rattle.opener.specs.Steps.{FindsCurrent}
 use Rattle.opener.specs.Calls.{IsPlain, is_write}
 use Rattle.opener.specs.Ends.{Reads, ReadsBy, is_current, lock_by}
 use Rattle.opener.specs.Opener.{Facts, Tied, ImageIs, IsShown, LooksUnder, WasShown, WasPeeked, running_as, stop_found}
@@ -188,3 +190,9 @@ module _ (o : OpenerState) (running next : Running) (peek : Peek) (s t : ShareSt
             rests = λ held calm. facts.rests (lock ∙ held) refl;
             work = (omega (arith, same.same.begun, facts.work.0), is.2.told (region_after start past));
           }))
+
+-- what the words that were peeked say of the image that is kept
+pub finds : (image : Option Image) (peek : Peek) (sequence : ℕ) (found : Bool) (t : ShareState) → is_current image peek sequence ≡ found → OnTold t.told (λ h. sequence ≡ sequence_at h.start h.past) →
+    FindsCurrent found peek image t
+finds image peek sequence found t is told =
+    told_map t.told (λ h. sequence ≡ sequence_at h.start h.past) (λ h. is_current image peek (sequence_at h.start h.past) ≡ found) (λ h same. sym (ap (is_current image peek) same) ∙ is) told

@@ -23,7 +23,7 @@ use Rattle.opener.specs.Continues.{SameCall}
 use Rattle.opener.specs.Ends.{IsReady, IsReadyBy, OnImage, Replies, lock_by}
 use Rattle.opener.specs.Plans.{CanWrite}
 use Rattle.opener.specs.Opener.{IsCalm, Facts, Tied, ImageIs, IsImage, IsShown, LooksUnder, MayEnd, OnAnswer, IsAnswer, HasCause, KeepsCall, running_as, stop_found}
-use Rattle.opener.specs.Steps.{CarriesOut, IsPlaceOf, KeepsImage, answers_by_look, peek_of}
+use Rattle.opener.specs.Steps.{ActsAt, IsPlaceOf, KeepsImage, answers_by_look, peek_of}
 use Rattle.opener.specs.declared.calls.Step.{Step}
 use Rattle.opener.specs.declared.calls.Step.TheVariants as step
 use Rattle.opener.specs.declared.calls.Stop.TheVariants as why
@@ -34,7 +34,7 @@ use Rattle.opener.specs.declared.work.Stage.{Stage}
 use Rattle.opener.specs.declared.work.Stage.TheVariants.{Size, Unlock}
 use Rattle.opener.specs.declared.work.Work.TheVariants.{Runs}
 use Rattle.opener.proofs.Carry.{none_reserved, tied_after}
-use Rattle.opener.proofs.EndClauses.{EndHasReason, going_answer, going_call, going_carries, going_cause, going_image, leaves_call, leaves_carries, leaves_cause}
+use Rattle.opener.proofs.EndClauses.{EndHasReason, going_answer, going_call, going_acts, going_cause, going_image, leaves_call, leaves_acts, leaves_cause}
 use Rattle.opener.proofs.Leaves.{EndsSo, LeftWith, Leaving, leaves_answer, leaves_image, leaves_place, leaves_tied}
 
 -- a plain call that is a write can be made, and one that isn't changes nothing
@@ -177,13 +177,13 @@ module _ (o mid : OpenerState) (i : Image) (running next : Running) (stage : Sta
       go false read (how, replies, leaves) =
           leaves_cause (Runs running stage) next how ended mid result new s t none (ends how read (reply_of how replies)).reason leaves
 
-  pub ready_carries : CarriesOut step.Going stage (Runs next Size) s t → ((how : End) → CarriesOut step.Going stage (Runs next (Unlock how)) s t) → ((a : Answer) → CarriesOut (step.Answered a) stage new.work s t) →
-      IsReady next place ended mid result new → CarriesOut result stage new.work s t
-  ready_carries sizes unlocks answers ready = go (is_write next.call) ready
+  pub ready_acts : ActsAt step.Going stage o.image (Runs next Size) s t → ((how : End) → ActsAt step.Going stage o.image (Runs next (Unlock how)) s t) → ((a : Answer) → ActsAt (step.Answered a) stage o.image new.work s t) →
+      IsReady next place ended mid result new → ActsAt result stage o.image new.work s t
+  ready_acts sizes unlocks answers ready = go (is_write next.call) ready
     where
-      go : (b : Bool) → IsReadyBy b next place ended mid result new → CarriesOut result stage new.work s t
-      go true on = going_carries stage next Size mid result new s t sizes on
-      go false (how, replies, leaves) = leaves_carries stage next how ended mid result new s t (unlocks how) answers leaves
+      go : (b : Bool) → IsReadyBy b next place ended mid result new → ActsAt result stage o.image new.work s t
+      go true on = going_acts stage o.image next Size mid result new s t sizes on
+      go false (how, replies, leaves) = leaves_acts stage o.image next how ended mid result new s t (unlocks how) answers leaves
 
   pub ready_place : ended ≡ changes_told t.told → IsReady next place ended mid result new → OnAnswer result (λ a. OnTold t.told (λ h. IsPlaceOf (peek_of stage) a))
   ready_place count ready = go (is_write next.call) refl ready

@@ -24,7 +24,7 @@ use Rattle.opener.specs.declared.work.Running.{Running}
 use Rattle.opener.specs.declared.work.Stage.TheVariants.{Store}
 use Rattle.opener.specs.declared.work.Work.TheVariants.{Runs}
 use Rattle.opener.proofs.AddsBy.{event_goes}
-use Rattle.opener.proofs.EndClauses.{going_answer, going_call, going_carries, going_cause, going_image}
+use Rattle.opener.proofs.EndClauses.{going_answer, going_call, going_acts, going_cause, going_image}
 use Rattle.opener.proofs.Falling.{few_stores, going_falls, store_shorter}
 use Rattle.opener.proofs.Followed.{followed_tied}
 use Rattle.opener.proofs.Same.{stored_same}
@@ -61,7 +61,7 @@ module _ {o : OpenerState} {running : Running} {plan : Plan} {result : Step} {ne
         call = going_call o.who o.holds running next (Store then) o result new lock.same refl on;
         cause = going_cause (Runs running (Store plan)) next (Store then) o result new s t refl on;
         takes = takes_same (Runs running (Store plan)) s t made.2.after.holds;
-        carries = going_carries (Store plan) next (Store then) o result new s t (b.events, made, fewer) on;
+        acts = going_acts (Store plan) o.image next (Store then) o result new s t (b.events, made, fewer) on;
         answer = going_answer next (Store then) o result new _ on;
         place = going_answer next (Store then) o result new _ on;
         image = going_image (Store plan) next (Store then) o o.image result new t (λ looks. absurd cc) on;

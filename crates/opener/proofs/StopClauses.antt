@@ -9,7 +9,7 @@ use Rattle.region_words.specs.declared.stops.ShareStop.TheVariants.{Failed, Turn
 use Rattle.opener.specs.State.{OpenerState}
 use Rattle.opener.specs.Calls.{AfterStop, IsTried}
 use Rattle.opener.specs.Continues.{SameCall}
-use Rattle.opener.specs.Steps.{CarriesOut, KeepsImage, TakesTried}
+use Rattle.opener.specs.Steps.{ActsAt, KeepsImage, TakesTried}
 use Rattle.opener.specs.Opener.{HasCause, HasReason, HasStopped, KeepsCall, MakesOne, OnAnswer, stop_found}
 use Rattle.opener.specs.declared.calls.Step.{Step}
 use Rattle.opener.specs.declared.calls.Step.TheVariants as step
@@ -113,12 +113,12 @@ tried_takes work kind Memory s t stops = takes_same work s t stops.0.after.holds
 tried_takes work kind JournalFull s t stops = takes_same work s t stops.0.after.holds
 
 -- and carries nothing out
-pub stopped_carries : (stop : ShareStop) (o : OpenerState) (running : Running) (stage : Stage) (result : Step) (new : OpenerState) (s t : ShareState) → AfterStop stop o running stage result new →
-    CarriesOut result stage new.work s t
-stopped_carries Turn o running stage result new s t after = subst (λ r. CarriesOut r stage new.work s t) (sym after.0) tt
-stopped_carries Failed o running stage result new s t after = subst (λ r. CarriesOut r stage new.work s t) (sym after.0) tt
-stopped_carries Memory o running stage result new s t after = subst (λ r. CarriesOut r stage new.work s t) (sym after.0) tt
-stopped_carries JournalFull o running stage result new s t after = subst (λ r. CarriesOut r stage new.work s t) (sym after.0) tt
+pub stopped_acts : (stop : ShareStop) (o : OpenerState) (running : Running) (stage : Stage) (result : Step) (new : OpenerState) (s t : ShareState) → AfterStop stop o running stage result new →
+    ActsAt result stage o.image new.work s t
+stopped_acts Turn o running stage result new s t after = subst (λ r. ActsAt r stage o.image new.work s t) (sym after.0) tt
+stopped_acts Failed o running stage result new s t after = subst (λ r. ActsAt r stage o.image new.work s t) (sym after.0) tt
+stopped_acts Memory o running stage result new s t after = subst (λ r. ActsAt r stage o.image new.work s t) (sym after.0) tt
+stopped_acts JournalFull o running stage result new s t after = subst (λ r. ActsAt r stage o.image new.work s t) (sym after.0) tt
 
 -- what waits keeps its image, and what stops keeps none
 pub stopped_image : (stop : ShareStop) (o : OpenerState) (running : Running) (stage : Stage) (result : Step) (new : OpenerState) (t : ShareState) → AfterStop stop o running stage result new →

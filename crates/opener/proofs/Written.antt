@@ -39,7 +39,7 @@ use Rattle.opener.specs.declared.work.End.TheVariants as end
 use Rattle.opener.specs.declared.work.Stage.TheVariants as stage
 use Rattle.opener.specs.declared.work.Work.TheVariants.{Runs}
 use Rattle.opener.proofs.AddsBy.{event_written}
-use Rattle.opener.proofs.EndClauses.{leaves_call, leaves_carries, leaves_cause}
+use Rattle.opener.proofs.EndClauses.{leaves_call, leaves_acts, leaves_cause}
 use Rattle.opener.proofs.Falling.{written_falls}
 use Rattle.opener.proofs.Carry.{told_call, changes_are, more_changes}
 use Rattle.opener.proofs.Followed.{RowOver, row_over}
@@ -199,7 +199,7 @@ module _ (o : OpenerState) (running next : Running) (plan : Plan) (b : Making) (
         call = leaves_call o.who o.holds running next how ended mid result new lock.same (write_plain running.call tied.at.1) tt refl refl written;
         cause = leaves_cause (Runs running (stage.Store plan)) next how ended mid result new s t refl tt written;
         takes = takes_same (Runs running (stage.Store plan)) s t after.holds;
-        carries = let stores : StoresFirst plan 0 s t = (b.events, made, omega (arith, last.many, ap length only)) in leaves_carries (stage.Store plan) next how ended mid result new s t stores (λ a. stores) written;
+        acts = let stores : StoresFirst plan 0 s t = (b.events, made, omega (arith, last.many, ap length only)) in leaves_acts (stage.Store plan) o.image next how ended mid result new s t stores (λ a. stores) written;
         answer = leaves_answer None mid next t how ended result new count left written;
         place = leaves_place None mid next t how ended result new count left written;
         image = leaves_image (stage.Store plan) mid next o.image t how ended result new (λ looks. absurd cc) left written;

@@ -1,7 +1,8 @@
 -- What a step of a call comes to.
-use Rattle.std.specs.Prelude.{◌≡◌, ℕ, ◌+◌, Bool, true, false, List, Option, Some, None, ⊤}
+use Rattle.std.specs.Prelude.{◌≡◌, ℕ, ◌+◌, Bool, true, false, not, List, Option, Some, None, ⊤}
 use Rattle.change_log.specs.declared.call.Answer.{Answer}
 use Rattle.lock_rules.specs.declared.table.LockKind.{LockKind}
+use Rattle.region_words.specs.Images.{sequence_at}
 use Rattle.region_words.specs.Making.{MakesFirst}
 use Rattle.region_words.specs.Share.{ShareState, Goes, reserving}
 use Rattle.region_words.specs.Told.{OnTold}
@@ -12,6 +13,7 @@ use Rattle.opener.specs.State.{OpenerState}
 use Rattle.opener.specs.Adds.{Adds}
 use Rattle.opener.specs.Bound.{Falls}
 use Rattle.opener.specs.Calls.{IsTried, is_write}
+use Rattle.opener.specs.Ends.{is_current}
 use Rattle.opener.specs.Opener.{Tied, MakesOne, KeepsCall, KeepsWords, HasCause, OnAnswer, IsAnswer, IsLastPlace}
 use Rattle.opener.specs.Plans.{events_in, room_in}
 use Rattle.opener.specs.Writes.{first_events}
@@ -43,12 +45,25 @@ ReservesPlan plan _ s t = ⊥
 abbrev pub StoresFirst : Plan → ℕ → ShareState → ShareState → Type 0
 StoresFirst plan left s t = (rest : List What) × MakesFirst (first_events plan) rest s t × (events_in plan ≡ left + 1)
 
--- what a step that goes on, or is answered, did of a plan
-abbrev pub CarriesOut : Step → Stage → Work → ShareState → ShareState → Type 0
-CarriesOut step.Going (stage.Reserve plan) new s t = ReservesPlan plan new s t
-CarriesOut step.Going (stage.Store plan) new s t = StoresFirst plan (events_left new) s t
-CarriesOut (step.Answered a) (stage.Store plan) new s t = StoresFirst plan 0 s t
-CarriesOut _ _ new s t = ⊤
+-- a load of the region is next, or a lock for it
+abbrev pub loads_next : Work → Bool
+loads_next (Runs running stage.LockShared) = true
+loads_next (Runs running (stage.Load loading)) = true
+loads_next _ = false
+
+-- both peeks gave the words of the image that is kept, or not
+abbrev pub FindsCurrent : Bool → Peek → Option Image → ShareState → Type 0
+FindsCurrent found peek image t = OnTold t.told (λ h. is_current image peek (sequence_at h.start h.past) ≡ found)
+
+-- What a step that goes on, or is answered, did at its stage: the region is loaded just where a look found other words, the share is
+-- asked for exactly what a plan takes, and its events are made one by one.
+abbrev pub ActsAt : Step → Stage → Option Image → Work → ShareState → ShareState → Type 0
+ActsAt step.Going (stage.PeekSequence peek) image new s t = FindsCurrent (not (loads_next new)) peek image t
+ActsAt (step.Answered a) (stage.PeekSequence peek) image new s t = FindsCurrent true peek image t
+ActsAt step.Going (stage.Reserve plan) image new s t = ReservesPlan plan new s t
+ActsAt step.Going (stage.Store plan) image new s t = StoresFirst plan (events_left new) s t
+ActsAt (step.Answered a) (stage.Store plan) image new s t = StoresFirst plan 0 s t
+ActsAt _ _ image new s t = ⊤
 
 -- this holds of the stage at which a call runs
 abbrev pub OnRunning : Work → (Stage → Type 0) → Type 0
@@ -109,7 +124,7 @@ pub record Steps (o : OpenerState) (running : Running) (at : Stage) (result : St
   pub call : KeepsCall o.who o.holds running result new
   pub cause : HasCause (Runs running at) result new.work s t
   pub takes : TakesTried (Runs running at) s t
-  pub carries : CarriesOut result at new.work s t
+  pub acts : ActsAt result at o.image new.work s t
   pub answer : OnAnswer result (λ a. OnTold t.told (λ h. IsAnswer a h.start h.past))
   pub place : OnAnswer result (λ a. OnTold t.told (λ h. IsPlaceOf (peek_of at) a))
   pub image : KeepsImage result at o.image new t

@@ -8,7 +8,7 @@ ghost use Rattle.opener.specs.Opener.{Tied, running_as, HasCause, IsAnswer, Keep
 ghost use Rattle.opener.specs.Bound.{Falls, steps_left};
 ghost use Rattle.opener.specs.Settles.{BeginsSettled, Settles};
 ghost use Rattle.opener.specs.Quiet.{ShowsQuietly};
-ghost use Rattle.opener.specs.Steps.{CarriesOut, IsPlaceOf, KeepsImage, OnRunning, Steps, TakesTried, peek_of};
+ghost use Rattle.opener.specs.Steps.{ActsAt, IsPlaceOf, KeepsImage, OnRunning, Steps, TakesTried, peek_of};
 
 use crate::calls::{NotBegun, Refused, Step, Stop};
 use crate::plan::Plan;
@@ -133,7 +133,7 @@ impl Opener {
         ensures call { KeepsWork self.old result self.new }
         ensures cause { HasCause self.old.work result self.new.work (S.state share.old) (S.state share.new) }
         ensures takes { TakesTried self.old.work (S.state share.old) (S.state share.new) }
-        ensures carries { OnRunning self.old.work (λ stage. CarriesOut result stage self.new.work (S.state share.old) (S.state share.new)) }
+        ensures acts { OnRunning self.old.work (λ stage. ActsAt result stage self.old.image self.new.work (S.state share.old) (S.state share.new)) }
         ensures answer { OnAnswer result (λ a. OnTold (S.state share.new).told (λ h. IsAnswer a h.start h.past)) }
         ensures place { OnRunning self.old.work (λ stage. OnAnswer result (λ a. OnTold (S.state share.new).told (λ h. IsPlaceOf (peek_of stage) a))) }
         ensures image { OnRunning self.old.work (λ stage. KeepsImage result stage self.old.image self.new (S.state share.new)) }

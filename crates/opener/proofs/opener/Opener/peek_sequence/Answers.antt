@@ -1,7 +1,9 @@
-use Rattle.std.proofs.Common.{arith, refl, sym}
-use Rattle.opener.proofs.Adding.{reads_none, reads_nothing}
+use Rattle.std.proofs.Common.{arith, refl, sym, subst, true, false}
+use Rattle.std.specs.Prelude.{not}
+use Rattle.opener.specs.Steps.{FindsCurrent}
+use Rattle.opener.proofs.Adding.{reads_load, reads_none, reads_nothing}
 use Rattle.opener.proofs.Falling.{plainly_shorter, reading_shorter}
-use Rattle.opener.proofs.Noticed.{current_is, current_ready, looks_next, peeked_leaving, reading_then}
+use Rattle.opener.proofs.Noticed.{current_is, current_ready, finds, looks_next, peeked_leaving, reading_then}
 use Rattle.opener.proofs.Same.{loaded_same}
 use Rattle.opener.proofs.StepEnds.{fails, loads_on, loads_ready}
 use Rattle.opener.proofs.opener.Opener.peek_sequence.Goals as goal
@@ -11,8 +13,9 @@ returns-then-is_current g c =
     let o = c.args.self.now in
     let same = loaded_same c.args.running _ c.with_load.ensures in
     let cur = current_is o.image c.args.peek c.in-Ok.sequence (sym c.if-is_current.ensures) in
+    let look = finds o.image c.args.peek c.in-Ok.sequence true (g.S.Share.state c.peek_sequence.new.self) (sym c.if-is_current.ensures) c.in-Ok.ensures.value in
     loads_ready c.requires (λ stored none. none) o _ _ _ cur.i (peeked_leaving o _ _ _ _ _ c.requires same c.in-Ok.ensures.ok) c.in-Ok.ensures.ok c.with_load.ensures c.requires.at.1
-    tt (λ how. tt) (λ a. tt) c.ready.ensures c.changes.ensures refl cur.kept (looks_next o _ _ _ _ _ c.requires same c.in-Ok.ensures.ok) (λ so_far none. none) (λ looks. refl)
+    look (λ how. look) (λ a. look) c.ready.ensures c.changes.ensures refl cur.kept (looks_next o _ _ _ _ _ c.requires same c.in-Ok.ensures.ok) (λ so_far none. none) (λ looks. refl)
     (current_ready o _ _ _ _ _ c.requires same c.in-Ok.ensures.ok _ cur c.in-Ok.ensures.value)
     (plainly_shorter _ _ _ refl (λ words. omega arith)) (λ how. plainly_shorter _ _ _ refl (λ words. omega arith))
 
@@ -22,7 +25,10 @@ returns-else-is_current g c =
     let next = c.with_load-in-Ok.result in
     let to = c.reading-stage.result in
     let same = loaded_same c.args.running next c.with_load-in-Ok.ensures in
-    loads_on c.requires (λ stored none. none) o next to refl c.in-Ok.ensures.ok c.with_load-in-Ok.ensures tt (λ looks. (refl, refl)) c.going.ensures
+    let t = g.S.Share.state c.peek_sequence.new.self in
+    let look = finds o.image c.args.peek c.in-Ok.sequence false t (sym c.if-is_current.ensures) c.in-Ok.ensures.value in
+    let other = subst (λ b. FindsCurrent (not b) c.args.peek o.image t) (sym (reads_load next o.holds c.args.running.taken to c.reading-stage.ensures)) look in
+    loads_on c.requires (λ stored none. none) o next to refl c.in-Ok.ensures.ok c.with_load-in-Ok.ensures other (λ looks. (refl, refl)) c.going.ensures
     (reads_none next o.holds c.args.running.taken to c.reading-stage.ensures)
     (λ so_far are. reads_nothing o.who next o.holds c.args.running.taken to so_far c.reading-stage.ensures are)
     (reading_then o _ next _ _ _ c.requires same c.in-Ok.ensures.ok to c.reading-stage.ensures)
