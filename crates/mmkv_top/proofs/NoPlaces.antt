@@ -212,7 +212,7 @@ for_lock who c r s t one kind goes full free =
 
 pub found_none : (who : ℕ) (o : OpenerState) (c : Call) (at : Stage) (r : Running) (s t : Seated) → s.who ≡ who → t.who ≡ who → (seat_state s).holds ≡ lock_in o.holds (Runs c at) → IsAt o (Runs c at) →
     c.call ≡ r.call → c.now ≡ r.now → HasReason (Runs c at) stop.JournalFull (seat_state s) (seat_state t) → FoundNone who r s t
-found_none who o c at r s t was one holds is call now (inl h) = for_lock who c r s t one h.0 h.1.0 h.1.1 h.1.2
+found_none who o c at r s t was one holds is call now (inl h) = for_lock who c r s t one h.0 h.2.0 h.2.1 h.2.2
 found_none who o c (stage.Reserve plan) r s t was one holds is call now (inr h) =
     record {
       stays = h.0.0;

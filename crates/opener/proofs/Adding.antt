@@ -17,6 +17,7 @@ use Rattle.opener.specs.Continues.{SameCall}
 use Rattle.opener.specs.Counted.{counted, with_stored}
 use Rattle.loader.specs.declared.loaded.Image.{Image}
 use Rattle.opener.specs.Ends.{GoesOn, IsDone, Finishes, Leaves, LeavesBy, IsReady, IsReadyBy, Notices, OnImage, Reads, ReadsBy, Replies, lock_by}
+use Rattle.opener.specs.Steps.{loads_next}
 use Rattle.opener.specs.declared.calls.Step.{Step}
 use Rattle.opener.specs.declared.calls.Step.TheVariants as step
 use Rattle.opener.specs.declared.calls.Stop.{Stop}
@@ -26,6 +27,8 @@ use Rattle.opener.specs.declared.work.End.{End}
 use Rattle.opener.specs.declared.work.End.TheVariants as end
 use Rattle.opener.specs.declared.work.Stage.{Stage}
 use Rattle.opener.specs.declared.work.Stage.TheVariants.{Unlock, Size}
+use Rattle.opener.specs.declared.work.Work.TheVariants.{Runs}
+use Rattle.opener.specs.Opener.{stop_found}
 use Rattle.opener.proofs.Ready.{no_act}
 
 -- counts that nothing was added to, and counts that a load, a lock or an event of a row was added to
@@ -177,6 +180,26 @@ pub notices_nothing : (who : ℕ) (next : Running) (image : Option Image) (holds
     AreMadeAt who next to made
 notices_nothing who next None holds taken to made notices nothing = reads_nothing who next holds taken to made notices nothing
 notices_nothing who next (Some i) holds taken to made is nothing = subst (λ z. AreMadeAt who next z made) (sym is) nothing
+
+-- and no stop is found there
+pub reads_none : (next : Running) (holds : ℕ) (taken : Option LockKind) (to : Stage) → Reads holds taken to → stop_found (Runs next to) ≡ None
+reads_none next holds taken to reads = go (lock_by holds taken) reads
+  where
+    go : (lock : Option LockKind) → ReadsBy lock to → stop_found (Runs next to) ≡ None
+    go None is = ap (λ z. stop_found (Runs next z)) is
+    go (Some kind) (loading, is, fresh) = ap (λ z. stop_found (Runs next z)) is
+
+-- a load is next
+pub reads_load : (next : Running) (holds : ℕ) (taken : Option LockKind) (to : Stage) → Reads holds taken to → loads_next (Runs next to) ≡ true
+reads_load next holds taken to reads = go (lock_by holds taken) reads
+  where
+    go : (lock : Option LockKind) → ReadsBy lock to → loads_next (Runs next to) ≡ true
+    go None is = ap (λ z. loads_next (Runs next z)) is
+    go (Some kind) (loading, is, fresh) = ap (λ z. loads_next (Runs next z)) is
+
+pub notices_none : (next : Running) (image : Option Image) (holds : ℕ) (taken : Option LockKind) (to : Stage) → Notices image holds taken to → stop_found (Runs next to) ≡ None
+notices_none next None holds taken to notices = reads_none next holds taken to notices
+notices_none next (Some i) holds taken to is = ap (λ z. stop_found (Runs next z)) is
 
 -- a hold and a release change nothing
 holding_none : (who : ℕ) (running : Running) (made : List Change) → act_of running.call running.now ≡ None → made ≡ [] → AreOfCall who running.call running.now made

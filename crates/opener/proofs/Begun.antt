@@ -104,7 +104,7 @@ module _ (o : OpenerState) (now changes : ℕ) (next : Stage) where
   may_notice asked plain write (Some i) e is =
       subst (MayFirst o (begun_at asked now changes)) (sym is)
       (record {
-        at = ((λ some. refl), plain, ((λ none. let both = sym e ∙ none in absurd cc), (λ w. exclusive_if o.holds None (write w))));
+        at = ((λ some. refl), plain, ((λ none. let both = sym e ∙ none in absurd cc), (λ w. exclusive_if o.holds None (write w)), (λ read. refl)));
         calm = refl;
         owes = λ s none. none;
         told = λ start past. tt;
@@ -175,24 +175,4 @@ begun_tied o new asked now changes s tied built bytes none count next first is =
             };
           })
           tied.told (changes_are s.told changes count);
-    })
-
--- an opener that has made no call is tied to a share that holds nothing and whose start, where it is told, is accepted
-pub new_tied : (o : OpenerState) (s : ShareState) → IsSound s → OnTold s.told (λ h. IsAccepted h.start) → o ≡ record { who = s.who; handled = true; image = None; holds = 0; work = Idle } → s.ended ≡ false →
-    s.holds ≡ None → Tied o s
-new_tied o s sound accepted is alive free =
-    let fresh : OpenerState = record { who = s.who; handled = true; image = None; holds = 0; work = Idle } in
-    subst (λ (n : OpenerState). Tied n s) (sym is)
-    (record {
-      who = refl;
-      maker = sound.maker;
-      ended = alive;
-      handled = refl;
-      holds = free;
-      deep = omega arith;
-      sound = tt;
-      at = tt;
-      owes = (sound.unreserved (λ held. let both = sym free ∙ held in absurd cc)).0;
-      told = told_and s.told (Agrees s) (λ h. IsAccepted h.start) (Knows fresh s)
-          (λ h a ok. record { agrees = a; accepted = ok; facts = record { image = tt; rests = λ held. absurd cc; work = tt } }) sound.told accepted;
     })

@@ -1,5 +1,5 @@
 -- What an opener knows of its share's journal is carried over what others do, and over its own calls.
-use Rattle.std.proofs.Common.{◌≡◌, ◌≢◌, ℕ, zero, suc, ◌<◌, ◌≤◌, arith, true, false, cond, List, [], ◌∷◌, ◌++◌, length, take, refl, sym, ◌∙◌, subst, ap, append_assoc, length-append}
+use Rattle.std.proofs.Common.{◌≡◌, ◌≢◌, ℕ, zero, suc, ◌<◌, ◌≤◌, arith, Bool, true, false, cond, List, [], ◌∷◌, ◌++◌, length, take, refl, sym, ◌∙◌, subst, ap, append_assoc, length-append}
 use Rattle.std.specs.Prelude.{Option, Some, None, slice_get, IfSome, not, ◌==◌}
 use Rattle.std.proofs.lemmas.List.{take-append-le}
 use Rattle.std.proofs.lemmas.Bool.Decides.{nat_tests}
@@ -38,8 +38,9 @@ use Rattle.expiring_map.specs.Map.{Map}
 use Rattle.loader.specs.Loads.{HasLoaded}
 use Rattle.loader.specs.declared.loaded.Image.{Image}
 use Rattle.opener.specs.State.{OpenerState}
+use Rattle.opener.specs.Calls.{is_write}
 use Rattle.opener.specs.Ends.{OnImage, lock_by}
-use Rattle.opener.specs.Opener.{Facts, Knows, Tied, IsShown, WasShown, ImageIs, PlanIs, ReplyIs, ChangeIs, EndIs, StageIs, WorkIs, IsAt, IsAtStage, Owes, image_at, lock_in, is_ended, is_storing, IsCalm}
+use Rattle.opener.specs.Opener.{Facts, Knows, Tied, IsShown, WasShown, ImageIs, PlanIs, ReplyIs, ChangeIs, EndIs, EndsNow, IsLastPlace, KeepsWords, MatchesRegion, StageIs, WorkIs, IsAt, IsAtStage, Owes, image_at, lock_in, is_ended, is_storing, IsCalm}
 use Rattle.opener.specs.Plans.{IsPlanOf, IsSoundImage}
 use Rattle.opener.specs.Writes.{MayStart, HasStanding, Leads, PlanLeads, commits_of, first_events}
 use Rattle.opener.specs.declared.plan.Plan.{Plan}
@@ -70,7 +71,7 @@ image_later (Some i) start more past l is =
     }
 
 -- a reply at an earlier place stays right
-pub reply_later : (call : Call) (now : ℕ) (reply : Reply) (place : ℕ) (start : Region) (more past : List Event) → place ≤ length (changes_of past) →
+reply_later : (call : Call) (now : ℕ) (reply : Reply) (place : ℕ) (start : Region) (more past : List Event) → place ≤ length (changes_of past) →
     ReplyIs call now reply place start past → ReplyIs call now reply place start (more ++ past)
 reply_later call now reply place start more past within is =
     λ ok apart.
@@ -84,7 +85,7 @@ get_front (x ∷ xs) ys zero c e = e
 get_front (x ∷ xs) ys (suc i) c e = get_front xs ys i c e
 
 -- and so does an own change
-pub change_later : (who : ℕ) (running : Running) (place : ℕ) (more past : List Event) → ChangeIs who running place past → ChangeIs who running place (more ++ past)
+change_later : (who : ℕ) (running : Running) (place : ℕ) (more past : List Event) → ChangeIs who running place past → ChangeIs who running place (more ++ past)
 change_later who running place more past is = go (act_of running.call running.now) is
   where
     go : (act : Option Act) → IfSome act (λ a. slice_get (changes_of past) place ≡ Some (record { maker = who; act = a })) →
@@ -111,6 +112,39 @@ end_later who (end.Answer place reply) running start others past is = (
   change_later who running place others past is.3,
 )
 end_later who (end.Stop why) running start others past is = tt
+
+-- where nothing is held the lock is the call's own
+pub none_held : (holds : ℕ) → holds ≡ 0 → (holds == 0) ≡ true
+none_held holds none = grind (arith, nat_tests)
+
+pub own_if : (holds : ℕ) (taken : Option LockKind) → holds ≡ 0 → lock_by holds taken ≡ taken
+own_if holds taken none = ap (λ b. cond b taken (Some Exclusive)) (none_held holds none)
+
+pub none_or_some : (holds : ℕ) → (0 < holds → ⊥) → holds ≡ 0
+none_or_some zero none = refl
+none_or_some (suc n) none = absurd (none (omega arith))
+
+-- a call that has taken a lock itself holds it
+pub taken_held : (holds : ℕ) (taken : Option LockKind) → (0 < holds → taken ≡ None) → taken ≢ None → lock_by holds taken ≢ None
+taken_held holds taken free some none = some (sym (own_if holds taken (none_or_some holds (λ more. some (free more)))) ∙ none)
+
+matches_later : (image : Option Image) (start : Region) (others past : List Event) → region_after start (others ++ past) ≡ region_after start past → MatchesRegion image start past →
+    MatchesRegion image start (others ++ past)
+matches_later None start others past same is = is
+matches_later (Some i) start others past same is = (is.0 ∙ sym (ap (λ r. (record_of r).checksum) same), is.1 ∙ sym (ap (λ r. (record_of r).sequence) same))
+
+pub words_later : (write : Bool) (image : Option Image) (start : Region) (others past : List Event) → region_after start (others ++ past) ≡ region_after start past → KeepsWords write image start past →
+    KeepsWords write image start (others ++ past)
+words_later true image start others past same is = λ ok apart. matches_later image start others past same (is ok (apart_front start others past apart))
+words_later false image start others past same is = matches_later image start others past same is
+
+ends_later : (image : Option Image) (how : End) (running : Running) (start : Region) (others past : List Event) → region_after start (others ++ past) ≡ region_after start past →
+    changes_of (others ++ past) ≡ changes_of past → EndsNow image how running start past → EndsNow image how running start (others ++ past)
+ends_later image (end.Answer place reply) running start others past same changes is = (
+  subst (λ l. IsLastPlace (is_write running.call) place (length l)) (sym changes) is.0,
+  words_later (is_write running.call) image start others past same is.1,
+)
+ends_later image (end.Stop why) running start others past same changes is = tt
 
 -- The same region and the same changes, at a later moment.
 module _ (start : Region) (others past : List Event) (region : region_after start (others ++ past) ≡ region_after start past) (changes : changes_of (others ++ past) ≡ changes_of past) where
@@ -181,13 +215,13 @@ module _ (o : OpenerState) (running : Running) (start : Region) (others past : L
   )
 
   pub stage_later : (stage : Stage) → (Apart start (others ++ past) → lock ≡ Some Exclusive → is_storing (Runs running stage) ≡ false → IsCalm start (others ++ past)) →
-      IsAtStage o running stage → StageIs o running stage start past → StageIs o running stage start (others ++ past)
-  stage_later PeekChecksum rests at is = tt
-  stage_later (PeekSequence peek) rests at is = peeked_later peek is
-  stage_later LockShared rests at is = tt
-  stage_later LockExclusive rests at is = tt
-  stage_later (Load loading) rests at is = subst (HasLoaded loading) (sym (same at.1).0) is
-  stage_later Size rests at is = go o.image is
+      (0 < o.holds → running.taken ≡ None) → IsAtStage o running stage → StageIs o running stage start past → StageIs o running stage start (others ++ past)
+  stage_later PeekChecksum rests own at is = tt
+  stage_later (PeekSequence peek) rests own at is = peeked_later peek is
+  stage_later LockShared rests own at is = tt
+  stage_later LockExclusive rests own at is = tt
+  stage_later (Load loading) rests own at is = subst (HasLoaded loading) (sym (same at.1).0) is
+  stage_later Size rests own at is = go o.image is
     where
       go : (image : Option Image) → OnImage image (λ i. IsAccepted start → Apart start past → IsShown i start past) →
           OnImage image (λ i. IsAccepted start → Apart start (others ++ past) → IsShown i start (others ++ past))
@@ -195,18 +229,20 @@ module _ (o : OpenerState) (running : Running) (start : Region) (others past : L
       go (Some i) is = λ ok apart.
           let s = same (exclusive_some lock at.1) in
           shown_on start others past s.0 s.1 i (None, rests apart at.1 refl) (is ok (apart_front start others past apart))
-  stage_later (Reserve plan) rests at is =
+  stage_later (Reserve plan) rests own at is =
       let s = same (exclusive_some lock at.0) in (
         (is.0.0, is.0.1, starts_later o.who is.0.0 (first_events plan) start others past l none (mine ∙ at.0) is.0.2),
         plan_on start others past s.0 s.1 plan is.1,
         plan_is_on start others past s.0 s.1 o.who running plan is.2,
       )
-  stage_later (Store plan) rests at is =
+  stage_later (Store plan) rests own at is =
       let s = same (exclusive_some lock at.0) in
       (plan_on start others past s.0 s.1 plan is.0, record { before = is.1.before; made = is.1.made; are = s.1 ∙ is.1.are; begun = is.1.begun; all = is.1.all })
-  stage_later (Unlock how) rests at is = end_later o.who how running start others past is
-  stage_later Hold rests at is = tt
-  stage_later Release rests at is = tt
+  stage_later (Unlock how) rests own at is =
+      let s = same (taken_held o.holds running.taken own at.0) in
+      (end_later o.who how running start others past is.0, ends_later o.image how running start others past s.0 s.1 is.1)
+  stage_later Hold rests own at is = tt
+  stage_later Release rests own at is = tt
 
 -- with a hold the lock is exclusive
 pub some_holds : (holds : ℕ) → 0 < holds → (holds == 0) ≡ false
@@ -215,20 +251,13 @@ some_holds holds some = grind (arith, nat_tests)
 pub exclusive_if : (holds : ℕ) (taken : Option LockKind) → 0 < holds → lock_by holds taken ≡ Some Exclusive
 exclusive_if holds taken some = ap (λ b. cond b taken (Some Exclusive)) (some_holds holds some)
 
--- without one it is the call's own
-pub none_held : (holds : ℕ) → holds ≡ 0 → (holds == 0) ≡ true
-none_held holds none = grind (arith, nat_tests)
-
-pub own_if : (holds : ℕ) (taken : Option LockKind) → holds ≡ 0 → lock_by holds taken ≡ taken
-own_if holds taken none = ap (λ b. cond b taken (Some Exclusive)) (none_held holds none)
-
 work_later : (o : OpenerState) (start : Region) (others past : List Event) → Lawful start (others ++ past) → NoneOf o.who others → (work : Work) → IsAt o work →
     (Apart start (others ++ past) → lock_in o.holds work ≡ Some Exclusive → is_storing work ≡ false → IsCalm start (others ++ past)) →
     lock_after past o.who ≡ lock_in o.holds work → WorkIs o work start past → WorkIs o work start (others ++ past)
 work_later o start others past l none Idle at rests mine is = tt
 work_later o start others past l none Ended at rests mine is = tt
 work_later o start others past l none (Runs running stage) at rests mine is =
-    (omega (arith, is.0, more_changes others past), stage_later o running start others past l none mine stage rests at.2 is.1)
+    (omega (arith, is.0, more_changes others past), stage_later o running start others past l none mine stage rests at.0 at.2 is.1)
 
 pub carry : (o : OpenerState) (start : Region) (others past : List Event) → Lawful start (others ++ past) → NoneOf o.who others → IsAt o o.work →
     lock_after past o.who ≡ lock_in o.holds o.work → Facts o start past → Facts o start (others ++ past)

@@ -1,16 +1,18 @@
 -- What a stage's clauses say where its call goes on, or is over.
-use Rattle.std.proofs.Common.{◌≡◌, ℕ, refl, sym, ◌∙◌, subst, ap, inr, lit≤}
+use Rattle.std.proofs.Common.{◌≡◌, ℕ, true, refl, sym, ◌∙◌, subst, ap, inr, lit≤}
 use Rattle.std.specs.Prelude.{Option, Some, None, IfSome, ⊤}
 use Rattle.change_log.specs.declared.call.Answer.{Answer}
 use Rattle.change_log.specs.declared.call.Call.{Call}
 use Rattle.change_log.specs.declared.call.Call.TheVariants as call
 use Rattle.lock_rules.specs.declared.table.LockKind.{LockKind}
 use Rattle.region_words.specs.Share.{ShareState, Goes, loaded}
+use Rattle.loader.specs.declared.loaded.Image.{Image}
 use Rattle.opener.specs.State.{OpenerState}
 use Rattle.opener.specs.Calls.{IsPlain, holds_after}
 use Rattle.opener.specs.Continues.{SameCall}
-use Rattle.opener.specs.Ends.{GoesOn, Leaves, LeavesBy}
+use Rattle.opener.specs.Ends.{Finishes, GoesOn, Leaves, LeavesBy, answer_of}
 use Rattle.opener.specs.Opener.{HasCause, HasReason, KeepsCall, MakesOne, MayEnd, OnAnswer, stop_found}
+use Rattle.opener.specs.Steps.{ActsAt, KeepsImage, still_looks}
 use Rattle.opener.specs.declared.calls.Step.{Step}
 use Rattle.opener.specs.declared.calls.Step.TheVariants as step
 use Rattle.opener.specs.declared.calls.Stop.{Stop}
@@ -71,22 +73,27 @@ stop_call who holds running why.SequenceEnd new may idle keeps = (idle, keeps)
 stop_call who holds running why.ExpiryOff new may idle keeps = (idle, keeps)
 stop_call who holds running why.ExpiryRange new may idle keeps = (idle, keeps)
 
--- a call that leaves so is the call that ran
+-- a call that ends so is the call that ran
+pub finishes_call : (who holds : ℕ) (running next : Running) (how : End) (ended : ℕ) (mid : OpenerState) (result : Step) (new : OpenerState) → SameCall running next → IsPlain running.call →
+    MayEnd how → mid.who ≡ who → mid.holds ≡ holds → Finishes next how ended mid result new → KeepsCall who holds running result new
+finishes_call who holds running next (end.Answer place reply) ended mid result new same plain may by keeps is =
+    subst (λ r. KeepsCall who holds running r new) (sym is.0) (
+      record { by = by; call_is = same.call; moment = same.now; begun = same.begun },
+      ap (λ (n : OpenerState). n.work) is.1,
+      ap (λ (n : OpenerState). n.holds) is.1 ∙ keeps ∙ sym (plain_holds running.call holds plain),
+    )
+finishes_call who holds running next (end.Stop stop) ended mid result new same plain may by keeps is =
+    subst (λ r. KeepsCall who holds running r new) (sym is.0)
+    (stop_call who holds running stop new may (ap (λ (n : OpenerState). n.work) is.1) (ap (λ (n : OpenerState). n.holds) is.1 ∙ keeps))
+
+-- and so is one that leaves
 pub leaves_call : (who holds : ℕ) (running next : Running) (how : End) (ended : ℕ) (mid : OpenerState) (result : Step) (new : OpenerState) → SameCall running next → IsPlain running.call →
     MayEnd how → mid.who ≡ who → mid.holds ≡ holds → Leaves next how ended mid result new → KeepsCall who holds running result new
-leaves_call who holds running next how ended mid result new same plain may by keeps leaves = go next.taken how may leaves
+leaves_call who holds running next how ended mid result new same plain may by keeps leaves = go next.taken leaves
   where
-    go : (taken : Option LockKind) (how : End) → MayEnd how → LeavesBy taken next how ended mid result new → KeepsCall who holds running result new
-    go (Some kind) how may is = going_call who holds running next (Unlock how) mid result new same keeps is
-    go None (end.Answer place reply) may is =
-        subst (λ r. KeepsCall who holds running r new) (sym is.0) (
-          record { by = by; call_is = same.call; moment = same.now; begun = same.begun },
-          ap (λ (n : OpenerState). n.work) is.1,
-          ap (λ (n : OpenerState). n.holds) is.1 ∙ keeps ∙ sym (plain_holds running.call holds plain),
-        )
-    go None (end.Stop stop) may is =
-        subst (λ r. KeepsCall who holds running r new) (sym is.0)
-        (stop_call who holds running stop new may (ap (λ (n : OpenerState). n.work) is.1) (ap (λ (n : OpenerState). n.holds) is.1 ∙ keeps))
+    go : (taken : Option LockKind) → LeavesBy taken next how ended mid result new → KeepsCall who holds running result new
+    go (Some kind) is = going_call who holds running next (Unlock how) mid result new same keeps is
+    go None is = finishes_call who holds running next how ended mid result new same plain may by keeps is
 
 -- an end that is a stop has its reason
 abbrev pub EndHasReason : Work → End → ShareState → ShareState → Type 0
@@ -105,3 +112,28 @@ leaves_cause old next how ended mid result new s t none reason leaves = go next.
         subst (λ r. HasCause old r new.work s t) (sym is.0) (subst (λ (n : OpenerState). HasCause old step.Going n.work s t) (sym is.1) tt)
     go (Some kind) (end.Stop stop) reason is =
         subst (λ r. HasCause old r new.work s t) (sym is.0) (subst (λ (n : OpenerState). HasCause old step.Going n.work s t) (sym is.1) reason)
+
+-- what it did at its stage where it goes on
+pub going_acts : (here : Stage) (old : Option Image) (next : Running) (stage : Stage) (mid : OpenerState) (result : Step) (new : OpenerState) (s t : ShareState) → ActsAt step.Going here old (Runs next stage) s t →
+    GoesOn next stage mid result new → ActsAt result here old new.work s t
+going_acts here old next stage mid result new s t carried on =
+    subst (λ r. ActsAt r here old new.work s t) (sym on.0) (subst (λ (n : OpenerState). ActsAt step.Going here old n.work s t) (sym on.1) carried)
+
+pub finishes_acts : (here : Stage) (old : Option Image) (next : Running) (how : End) (ended : ℕ) (mid : OpenerState) (result : Step) (new : OpenerState) (s t : ShareState) →
+    ((a : Answer) → ActsAt (step.Answered a) here old new.work s t) → Finishes next how ended mid result new → ActsAt result here old new.work s t
+finishes_acts here old next (end.Answer place reply) ended mid result new s t carried is = subst (λ r. ActsAt r here old new.work s t) (sym is.0) (carried (answer_of mid.who next place ended reply))
+finishes_acts here old next (end.Stop stop) ended mid result new s t carried is = subst (λ r. ActsAt r here old new.work s t) (sym is.0) tt
+
+pub leaves_acts : (here : Stage) (old : Option Image) (next : Running) (how : End) (ended : ℕ) (mid : OpenerState) (result : Step) (new : OpenerState) (s t : ShareState) →
+    ActsAt step.Going here old (Runs next (Unlock how)) s t → ((a : Answer) → ActsAt (step.Answered a) here old new.work s t) → Leaves next how ended mid result new → ActsAt result here old new.work s t
+leaves_acts here old next how ended mid result new s t goes answers leaves = go next.taken leaves
+  where
+    go : (taken : Option LockKind) → LeavesBy taken next how ended mid result new → ActsAt result here old new.work s t
+    go None is = finishes_acts here old next how ended mid result new s t answers is
+    go (Some kind) is = going_acts here old next (Unlock how) mid result new s t goes is
+
+-- and the image is kept on
+pub going_image : (here : Stage) (next : Running) (stage : Stage) (mid : OpenerState) (old : Option Image) (result : Step) (new : OpenerState) (t : ShareState) →
+    (still_looks stage ≡ true → (still_looks here ≡ true) × (mid.image ≡ old)) → GoesOn next stage mid result new → KeepsImage result here old new t
+going_image here next stage mid old result new t keeps on =
+    subst (λ r. KeepsImage r here old new t) (sym on.0) (subst (λ (n : OpenerState). KeepsImage step.Going here old n t) (sym on.1) keeps)

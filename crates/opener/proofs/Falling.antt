@@ -100,7 +100,7 @@ pub going_falls : (old : Work) (next : Running) (stage : Stage) (mid : OpenerSta
 going_falls old next stage mid result new t short on =
     subst (λ r. Falls old r new.work t) (sym on.0) (subst (λ (n : OpenerState). Shortens old n.work t) (sym on.1) short)
 
-always_told : (t : Option History) (P : History → Type 0) → ((h : History) → P h) → OnTold t P
+pub always_told : (t : Option History) (P : History → Type 0) → ((h : History) → P h) → OnTold t P
 always_told None P p = tt
 always_told (Some h) P p = p h
 
@@ -139,15 +139,7 @@ module _ (running next : Running) (t : ShareState) where
   pub locked_shorter : (loading : Load) → Shortens (Runs running stage.LockShared) (Runs next (stage.Load loading)) t
   locked_shorter loading = plainly_shorter (Runs running stage.LockShared) (Runs next (stage.Load loading)) t refl (λ words. omega arith)
 
-  -- a current image
-  pub current_falls : (peek : _) (place ended : ℕ) (mid : OpenerState) (result : Step) (new : OpenerState) → IsReady next place ended mid result new →
-      Falls (Runs running (stage.PeekSequence peek)) result new.work t
-  current_falls peek place ended mid result new ready =
-      ready_falls running next (stage.PeekSequence peek) place ended mid result new t
-      (plainly_shorter (Runs running (stage.PeekSequence peek)) (Runs next stage.Size) t refl (λ words. omega arith))
-      (λ how. plainly_shorter (Runs running (stage.PeekSequence peek)) (Runs next (stage.Unlock how)) t refl (λ words. omega arith)) ready
-
-  -- one that isn't
+  -- an image that isn't current
   pub reading_shorter : (peek : _) (holds : ℕ) (taken : Option LockKind) (next_stage : Stage) → Reads holds taken next_stage →
       Shortens (Runs running (stage.PeekSequence peek)) (Runs next next_stage) t
   reading_shorter peek holds taken next_stage reads = go (lock_by holds taken) reads
@@ -188,22 +180,6 @@ module _ (running next : Running) (before : Load) (t : ShareState) where
 
   pub load_left : (how : End) → Shortens (Runs running (stage.Load before)) (Runs next (stage.Unlock how)) t
   load_left how = plainly_shorter (Runs running (stage.Load before)) (Runs next (stage.Unlock how)) t refl (λ words. omega arith)
-
-  ready : (place ended : ℕ) (mid : OpenerState) (result : Step) (new : OpenerState) → IsReady next place ended mid result new → Falls (Runs running (stage.Load before)) result new.work t
-  ready place ended mid result new is =
-      ready_falls running next (stage.Load before) place ended mid result new t
-      (plainly_shorter (Runs running (stage.Load before)) (Runs next stage.Size) t refl (λ words. omega arith)) load_left is
-
-  -- the last load of an image, or of damage
-  pub loaded_falls : (loaded : Loaded) (place : ℕ) (mid : OpenerState) (result : Step) (new : OpenerState) → IsLoaded next loaded place mid result new →
-      Falls (Runs running (stage.Load before)) result new.work t
-  loaded_falls loaded place mid result new is = go loaded.shown is
-    where
-      go : (seen : Shown) → IsLoadedBy seen next loaded place mid result new → Falls (Runs running (stage.Load before)) result new.work t
-      go (shown.Whole n) is = ready place place (record mid { image = Some loaded.image }) result new is
-      go (shown.Header n) is = leaves_falls running next (stage.Load before) (end.Stop (why.NotWhole (shown.Header n))) place mid result new t (load_left (end.Stop (why.NotWhole (shown.Header n)))) is
-      go (shown.Last n) is = leaves_falls running next (stage.Load before) (end.Stop (why.NotWhole (shown.Last n))) place mid result new t (load_left (end.Stop (why.NotWhole (shown.Last n)))) is
-      go (shown.Damaged d) is = leaves_falls running next (stage.Load before) (end.Stop (why.NotWhole (shown.Damaged d))) place mid result new t (load_left (end.Stop (why.NotWhole (shown.Damaged d)))) is
 
 -- a call begins with so many steps at most
 pub first_bound : (image : Option Image) (holds : ℕ) (asked : Call) (first : Stage) → IsFirst image holds asked first → (words : ℕ) → steps_at words first ≤ 6 * words + 100
@@ -278,7 +254,7 @@ both_told (Some h) None R P f both = absurd both
 both_told (Some h) (Some k) R P f both = f h k both
 
 -- the stores of a plan, within the words of a growth that comes first
-few_stores : (words : ℕ) (plan : Plan) → stores_left words plan ≤ events_in plan + 1
+pub few_stores : (words : ℕ) (plan : Plan) → stores_left words plan ≤ events_in plan + 1
 few_stores words plan = go (nat_lt (4 * words) (next_growth plan))
   where
     go : (b : Bool) → cond b 1 (events_in plan + 1) ≤ events_in plan + 1
@@ -318,25 +294,3 @@ module _ (running next : Running) (plan : Plan) (rest : List What) (s t : ShareS
   written_falls image ended mid result new written =
       leaves_falls running next (stage.Store plan) (end.Answer (ended - 1) Done) ended (record mid { image = Some image }) result new t
       (store_shorter (stage.Unlock (end.Answer (ended - 1) Done)) (λ words. omega (arith, some_event))) written
-
--- others are to come
-pub appending_falls : (running next : Running) (a b : Making) (map : Map) (s t : ShareState) (mid : OpenerState) (result : Step) (new : OpenerState) → MakesFirst a.events b.events s t →
-    GoesOn next (stage.Store (Append b map)) mid result new → Falls (Runs running (stage.Store (Append a map))) result new.work t
-appending_falls running next a b map s t mid result new made on =
-    going_falls (Runs running (stage.Store (Append a map))) next (stage.Store (Append b map)) mid result new t
-    (store_shorter running next (Append a map) b.events s t made (stage.Store (Append b map)) (λ words. omega (arith, few_stores words (Append b map), ap length made.1))) on
-
-pub rewriting_falls : (running next : Running) (r b : Making) (then : Option Making) (map : Map) (s t : ShareState) (mid : OpenerState) (result : Step) (new : OpenerState) →
-    MakesFirst r.events b.events s t → GoesOn next (stage.Store (Rewrite b then map)) mid result new → Falls (Runs running (stage.Store (Rewrite r then map))) result new.work t
-rewriting_falls running next r b then map s t mid result new made on =
-    going_falls (Runs running (stage.Store (Rewrite r then map))) next (stage.Store (Rewrite b then map)) mid result new t
-    (store_shorter running next (Rewrite r then map) b.events s t made (stage.Store (Rewrite b then map)) (λ words. omega (arith, few_stores words (Rewrite b then map), ap length made.1))) on
-
--- an append follows a rewrite, or nothing does
-pub rewritten_falls : (running next : Running) (r b : Making) (then : Option Making) (map : Map) (standing : Standing) (ended : ℕ) (s t : ShareState) (mid : OpenerState) (result : Step)
-    (new : OpenerState) → MakesFirst r.events b.events s t → Rewritten next standing then map ended mid result new → Falls (Runs running (stage.Store (Rewrite r then map))) result new.work t
-rewritten_falls running next r b None map standing ended s t mid result new made is =
-    written_falls running next (Rewrite r None map) b.events s t made (record { standing = standing; map = map }) ended mid result new is
-rewritten_falls running next r b (Some a) map standing ended s t mid result new made is =
-    going_falls (Runs running (stage.Store (Rewrite r (Some a) map))) next (stage.Store (Append a map)) mid result new t
-    (store_shorter running next (Rewrite r (Some a) map) b.events s t made (stage.Store (Append a map)) (λ words. omega (arith, few_stores words (Append a map), ap length made.1))) is

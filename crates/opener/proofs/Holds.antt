@@ -1,5 +1,5 @@
 -- Holds and releases.
-use Rattle.std.proofs.Common.{◌≡◌, ℕ, ◌<◌, ◌≤◌, arith, false, List, [], ◌∷◌, length, refl, sym, ◌∙◌, subst}
+use Rattle.std.proofs.Common.{◌≡◌, ℕ, ◌<◌, ◌≤◌, arith, false, List, [], ◌∷◌, length, refl, sym, ◌∙◌, subst, ap}
 use Rattle.std.specs.Prelude.{Some, None, IfSome, ⊤, slice_get, take}
 use Rattle.change_log.specs.Acts.{act_of, replay}
 use Rattle.change_log.specs.History.{reply_in}
@@ -17,9 +17,10 @@ use Rattle.region_words.specs.declared.event.What.TheVariants.{Lock, Unlock}
 use Rattle.region_words.specs.declared.event.Event.{Event}
 use Rattle.region_words.proofs.Telling.{told_map, told_and}
 use Rattle.opener.specs.State.{OpenerState}
+use Rattle.opener.specs.Calls.{is_write}
 use Rattle.opener.specs.Continues.{SameCall}
 use Rattle.opener.specs.Ends.{answer_of}
-use Rattle.opener.specs.Opener.{Tied, Knows, IsAnswer, EndIs, running_as, is_storing}
+use Rattle.opener.specs.Opener.{Tied, Knows, IsAnswer, IsLastPlace, EndIs, running_as, is_storing}
 use Rattle.opener.specs.declared.work.Running.{Running}
 use Rattle.opener.specs.declared.work.End.TheVariants as end
 use Rattle.opener.specs.declared.work.Stage.{Stage}
@@ -76,6 +77,10 @@ pub done_answer : (who place : ℕ) (running : Running) (start : Region) (past :
     place ≡ length (changes_of past) → IsAnswer (answer_of who running place place Done) start past
 done_answer who place running start past begun holding e =
     is_answer who place place Done running start past (done_end who running place start past holding (omega (arith, begun, e)) e) e
+
+-- the place of a call that is no write is its end
+pub done_place : (c asked : Call) (n : ℕ) → is_write asked ≡ false → c ≡ asked → IsLastPlace (is_write c) n n
+done_place c asked n none e = subst (λ b. IsLastPlace b n n) (sym (ap is_write e ∙ none)) refl
 
 -- a call that is answered without a call on the share leaves so many holds
 module _ (o : OpenerState) (running : Running) (stage : Stage) (s : ShareState) (tied : Tied (running_as o running stage) s) (calm : is_storing (Runs running stage) ≡ false) where

@@ -6,9 +6,9 @@ pub mod Carry
 pub mod EndClauses
 pub mod Ended
 pub mod Falling
-pub mod Finished
 pub mod Followed
 pub mod Holds
+pub mod TriedKinds
 pub mod Leading
 pub mod Leaves
 pub mod Leaving
@@ -30,6 +30,7 @@ pub mod Settling
 pub mod Sized
 pub mod Stages
 pub mod Starting
+pub mod StepEnds
 pub mod StopClauses
 pub mod Stopped
 pub mod Stored

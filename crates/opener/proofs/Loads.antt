@@ -1,5 +1,5 @@
 -- What an opener knows after a load.
-use Rattle.std.proofs.Common.{◌≡◌, ◌≢◌, ℕ, arith, true, List, [], length, refl, sym, ◌∙◌, subst, ap, take_all}
+use Rattle.std.proofs.Common.{◌+◌, ◌≡◌, ◌≢◌, ℕ, arith, true, List, [], length, refl, sym, ◌∙◌, subst, ap, take_all}
 use Rattle.std.specs.Prelude.{Option, Some, None, ⊤, is_some, unwrap_or, option_and_then}
 use Rattle.std.specs.FinMap as fin
 use Rattle.expiring_map.specs.Map.{Map}
@@ -31,7 +31,7 @@ use Rattle.opener.specs.State.{OpenerState}
 use Rattle.opener.specs.Calls.{IsPlain}
 use Rattle.opener.specs.Ends.{IsLoaded, IsLoadedBy, Leaves, OnImage, lock_by, stop_of}
 use Rattle.opener.specs.Plans.{IsSoundImage}
-use Rattle.opener.specs.Opener.{Tied, Facts, IsImage, IsShown, HasCause, HasReason, IsAnswer, KeepsCall, LooksUnder, MayEnd, OnAnswer, running_as}
+use Rattle.opener.specs.Opener.{Tied, Facts, IsImage, IsLastPlace, IsShown, HasReason, KeepsWords, LooksUnder, MatchesRegion, MayEnd, running_as}
 use Rattle.opener.specs.declared.calls.Step.{Step}
 use Rattle.opener.specs.declared.calls.Stop.{Stop}
 use Rattle.opener.specs.declared.calls.Stop.TheVariants as why
@@ -40,10 +40,14 @@ use Rattle.opener.specs.declared.work.End.TheVariants as end
 use Rattle.opener.specs.declared.work.Stage.TheVariants.{Load}
 use Rattle.opener.specs.declared.work.Work.TheVariants.{Runs}
 use Rattle.opener.proofs.Carry.{told_call, changes_are}
-use Rattle.opener.proofs.EndClauses.{leaves_call, leaves_cause}
-use Rattle.opener.proofs.Leaves.{LeftWith, Leaving, leaves_tied, leaves_answer}
-use Rattle.opener.proofs.Ready.{ReadyWith, ready_tied, ready_answer, ready_call, ready_cause}
-use Rattle.opener.proofs.Same.{SameLock}
+use Rattle.opener.proofs.Falling.{load_left, plainly_shorter}
+use Rattle.opener.proofs.Leaves.{LeftWith, Leaving}
+use Rattle.opener.proofs.Ready.{ReadyWith}
+use Rattle.opener.proofs.RowEnds.{has_map, whole_matches}
+use Rattle.opener.proofs.Same.{SameLock, loaded_same}
+use Rattle.opener.proofs.StepEnds.{loads_leave, loads_ready}
+use Rattle.opener.specs.Counted.{counted}
+use Rattle.opener.specs.Steps.{Steps}
 use Rattle.opener.proofs.Stages.{looks_on}
 use Rattle.opener.proofs.Leaving.{rests_locked}
 use Rattle.opener.proofs.Stopped.{nothing_told}
@@ -52,10 +56,6 @@ use Rattle.opener.proofs.Stopped.{nothing_told}
 rest_now : (o : OpenerState) (running : Running) (loading : Loading) (start : Region) (past : List Event) (who : ℕ) → Lawful start past → Facts (running_as o running (Load loading)) start past →
     (lock : Option LockKind) → lock_by o.holds running.taken ≡ lock → lock ≢ None → lock_after past who ≡ lock → Apart start past → AtRest start past
 rest_now o running loading start past who l facts lock is some mine apart = rests_locked o running (Load loading) start past who l facts refl lock is some mine apart
-
-has_map : (o : Option Map) → is_some o ≡ true → (m : Map) × (o ≡ Some m)
-has_map None e = absurd cc
-has_map (Some m) e = (m, refl)
 
 -- a whole image has the map of the history
 module _ (start : Region) (past : List Event) (region : IsRegion start) (l : Lawful start past) (rests : Apart start past → AtRest start past) (found : Loaded)
@@ -83,6 +83,9 @@ module _ (start : Region) (past : List Event) (region : IsRegion start) (l : Law
 
   file_is : found.image.standing.file_size ≡ file_size r
   file_is = ap (λ (s : Standing). s.file_size) size_is
+
+  matches_is : MatchesRegion (Some found.image) start past
+  matches_is = whole_matches found.image start past n shows (ap (λ (s : Standing). s.checksum) size_is) (ap (λ (s : Standing). s.sequence) size_is)
 
   history : IsAccepted start → Apart start past → found.image.map ≡ map_after start past
   history ok apart = map_is ∙ whole_history start past n mapped.0 (main_law start past region ok l apart (rests apart)) shows mapped.1
@@ -115,7 +118,10 @@ sound_load found w =
     }
 
 module _ (o : OpenerState) (running next : Running) (old : Loading) (result : Step) (new : OpenerState) (s t : ShareState) (tied : Tied (running_as o running (Load old)) s)
-    (same : SameLock running next) (goes : Goes (loaded s) s t) where
+    (more : next ≡ record running { loads = counted (running.loads + 1) }) (goes : Goes (loaded s) s t) where
+  same : SameLock running next
+  same = loaded_same running next more
+
   lock : lock_by o.holds running.taken ≡ lock_by o.holds next.taken
   lock = ap (lock_by o.holds) (sym same.taken)
 
@@ -138,42 +144,37 @@ module _ (o : OpenerState) (running next : Running) (old : Loading) (result : St
         plain = subst IsPlain (sym same.same.call) tied.at.1;
       }
 
-  stop_left : (stop : Stop) → OnTold t.told (λ k. LeftWith o next (end.Stop stop) k.start k.past)
+  stop_left : (stop : Stop) → OnTold t.told (λ k. LeftWith None o next (end.Stop stop) k.start k.past)
   stop_left stop =
-      told_call (running_as o running (Load old)) s t (loaded s) (λ start past. ⊤) (LeftWith o next (end.Stop stop)) tied goes.after (nothing_told t.told)
+      told_call (running_as o running (Load old)) s t (loaded s) (λ start past. ⊤) (LeftWith None o next (end.Stop stop)) tied goes.after (nothing_told t.told)
       (λ start past region lawful mine facts e. record {
         begun = omega (arith, same.same.begun, facts.work.0);
         image = facts.image;
         end_is = tt;
+        ends = tt;
         rests = λ held apart. facts.rests (lock ∙ held) refl apart;
       })
 
   -- the call stops for what it loaded
-  pub stop_tied : (stop : Stop) (ended : ℕ) → MayEnd (end.Stop stop) → Leaves next (end.Stop stop) ended o result new → Tied new t
-  stop_tied stop ended may leaves = leaves_tied o o running next (Load old) s t tied (leaving o.image tied.sound) (end.Stop stop) ended result new may (stop_left stop) leaves
-
-  pub stop_answer : (stop : Stop) (ended : ℕ) → ended ≡ changes_told t.told → Leaves next (end.Stop stop) ended o result new → OnAnswer result (λ a. OnTold t.told (λ h. IsAnswer a h.start h.past))
-  stop_answer stop ended count leaves = leaves_answer o next t (end.Stop stop) ended result new count (stop_left stop) leaves
-
-  pub stop_call : (stop : Stop) (ended : ℕ) → MayEnd (end.Stop stop) → Leaves next (end.Stop stop) ended o result new → KeepsCall o.who o.holds running result new
-  stop_call stop ended may leaves = leaves_call o.who o.holds running next (end.Stop stop) ended o result new same.same tied.at.1 may refl refl leaves
-
-  pub stop_cause : (stop : Stop) (ended : ℕ) → HasReason (Runs running (Load old)) stop s t → Leaves next (end.Stop stop) ended o result new → HasCause (Runs running (Load old)) result new.work s t
-  stop_cause stop ended reason leaves = leaves_cause (Runs running (Load old)) next (end.Stop stop) ended o result new s t refl reason leaves
+  pub stop_steps : (stop : Stop) (ended : ℕ) → MayEnd (end.Stop stop) → HasReason (Runs running (Load old)) stop s t → ended ≡ changes_told t.told →
+      Leaves next (end.Stop stop) ended o result new → Steps o running (Load old) result new s t
+  stop_steps stop ended may reason count left =
+      loads_leave tied (λ stored none. none) o next (end.Stop stop) ended (leaving o.image tied.sound) goes more tied.at.1 tt (λ a. tt) left count refl may reason (λ so_far are. are) (λ looks. absurd cc) (stop_left stop)
+      (load_left running next old t (end.Stop stop))
 
   -- the load is done
   module _ (found : Loaded) (place : ℕ) (sound : IsLoadedWhole found) (told : OnTold t.told (λ h. IsLoadOf found (region_after h.start h.past))) (count : place ≡ changes_told t.told) where
     abbrev mid : OpenerState
     mid = record o { image = Some found.image }
 
-    whole_ready : (n : ℕ) → found.shown ≡ seen.Whole n → OnTold t.told (λ k. ReadyWith mid found.image next place k.start k.past)
+    whole_ready : (n : ℕ) → found.shown ≡ seen.Whole n → OnTold t.told (λ k. ReadyWith None mid found.image next place k.start k.past)
     whole_ready n whole =
         told_call (running_as o running (Load old)) s t (loaded s) (λ start past. IsLoadOf found (region_after start past) × (place ≡ length (changes_of past)))
-        (ReadyWith mid found.image next place) tied goes.after (told_and t.told _ _ _ (λ h p q. (p, q)) told (changes_are t.told place count))
+        (ReadyWith None mid found.image next place) tied goes.after (told_and t.told _ _ _ (λ h p q. (p, q)) told (changes_are t.told place count))
         (λ start past region lawful mine facts e. go start past region lawful facts (rest_now o running old start past s.who lawful facts (lock_by o.holds running.taken) refl tied.at.2.1 (mine ∙ tied.holds)) e)
       where
         go : (start : Region) (past : List Event) → IsRegion start → Lawful start past → Facts (running_as o running (Load old)) start past → (Apart start past → AtRest start past) →
-            IsLoadOf found (region_after start past) × (place ≡ length (changes_of past)) → ReadyWith mid found.image next place start past
+            IsLoadOf found (region_after start past) × (place ≡ length (changes_of past)) → ReadyWith None mid found.image next place start past
         go start past region lawful facts rests e =
             record {
               begun = omega (arith, same.same.begun, facts.work.0, e.1);
@@ -181,6 +182,8 @@ module _ (o : OpenerState) (running next : Running) (old : Loading) (result : St
               image = image_is start past region lawful rests found e.0 n whole;
               found = λ ok apart. history start past region lawful rests found e.0 n whole ok apart ∙ ap (replay (base start)) (sym (take_all place (changes_of past) (omega (arith, e.1))));
               now = λ write ok apart. shown_is start past region lawful rests found e.0 n whole ok apart;
+              ends = λ reply read.
+                  subst (λ w. IsLastPlace w place (length (changes_of past)) × KeepsWords w (Some found.image) start past) (sym read) (e.1, matches_is start past region lawful rests found e.0 n whole);
               rests = λ held apart. facts.rests (ap (lock_by o.holds) (sym same.taken) ∙ held) refl apart;
             }
 
@@ -198,45 +201,19 @@ module _ (o : OpenerState) (running next : Running) (old : Loading) (result : St
     abbrev Is : Shown → Type 0
     Is z = IsLoadedBy z next found place o result new
 
-    pub done_tied : IsLoaded next found place o result new → Tied new t
-    done_tied is = go found.shown refl is
+    pub done_steps : IsLoaded next found place o result new → Steps o running (Load old) result new s t
+    done_steps is = go found.shown refl is
       where
-        go : (z : Shown) → found.shown ≡ z → Is z → Tied new t
-        go (seen.Whole n) e is =
-            ready_tied o mid found.image running next (Load old) place place result new s t tied (leaving (Some found.image) (sound_load found sound)) refl same.same looks_next (whole_ready n e) is
-        go (seen.Header n) e is = stop_tied (why.NotWhole (seen.Header n)) place tt is
-        go (seen.Last n) e is = stop_tied (why.NotWhole (seen.Last n)) place tt is
-        go (seen.Damaged d) e is = stop_tied (why.NotWhole (seen.Damaged d)) place tt is
+        stops : (z : Shown) → ((n : ℕ) → z ≢ seen.Whole n) → found.shown ≡ z → Leaves next (end.Stop (why.NotWhole z)) place o result new → Steps o running (Load old) result new s t
+        stops z other e left = stop_steps (why.NotWhole z) place tt (no_reason z other e) count left
 
-    pub done_answer : IsLoaded next found place o result new → OnAnswer result (λ a. OnTold t.told (λ h. IsAnswer a h.start h.past))
-    done_answer is = go found.shown refl is
-      where
-        go : (z : Shown) → found.shown ≡ z → Is z → OnAnswer result (λ a. OnTold t.told (λ h. IsAnswer a h.start h.past))
+        go : (z : Shown) → found.shown ≡ z → Is z → Steps o running (Load old) result new s t
         go (seen.Whole n) e is =
-            ready_answer o mid found.image running next (Load old) place place result new s t tied (leaving (Some found.image) (sound_load found sound)) refl same.same looks_next (whole_ready n e) count is
-        go (seen.Header n) e is = stop_answer (why.NotWhole (seen.Header n)) place count is
-        go (seen.Last n) e is = stop_answer (why.NotWhole (seen.Last n)) place count is
-        go (seen.Damaged d) e is = stop_answer (why.NotWhole (seen.Damaged d)) place count is
-
-    pub done_call : IsLoaded next found place o result new → KeepsCall o.who o.holds running result new
-    done_call is = go found.shown refl is
-      where
-        go : (z : Shown) → found.shown ≡ z → Is z → KeepsCall o.who o.holds running result new
-        go (seen.Whole n) e is =
-            ready_call o mid found.image running next (Load old) place place result new s t tied (leaving (Some found.image) (sound_load found sound)) refl same.same looks_next (whole_ready n e) tied.at.1 is
-        go (seen.Header n) e is = stop_call (why.NotWhole (seen.Header n)) place tt is
-        go (seen.Last n) e is = stop_call (why.NotWhole (seen.Last n)) place tt is
-        go (seen.Damaged d) e is = stop_call (why.NotWhole (seen.Damaged d)) place tt is
-
-    pub done_cause : IsLoaded next found place o result new → HasCause (Runs running (Load old)) result new.work s t
-    done_cause is = go found.shown refl is
-      where
-        go : (z : Shown) → found.shown ≡ z → Is z → HasCause (Runs running (Load old)) result new.work s t
-        go (seen.Whole n) e is =
-            ready_cause o mid found.image running next (Load old) place place result new s t tied (leaving (Some found.image) (sound_load found sound)) refl same.same looks_next (whole_ready n e) refl is
-        go (seen.Header n) e is = stop_cause (why.NotWhole (seen.Header n)) place (no_reason (seen.Header n) (λ k both. absurd cc) e) is
-        go (seen.Last n) e is = stop_cause (why.NotWhole (seen.Last n)) place (no_reason (seen.Last n) (λ k both. absurd cc) e) is
-        go (seen.Damaged d) e is = stop_cause (why.NotWhole (seen.Damaged d)) place (no_reason (seen.Damaged d) (λ k both. absurd cc) e) is
+            loads_ready tied (λ stored none. none) mid next place place found.image (leaving (Some found.image) (sound_load found sound)) goes more tied.at.1 tt (λ how. tt) (λ a. tt) is count refl refl looks_next (λ so_far none. none) (λ looks. absurd cc)
+            (whole_ready n e) (plainly_shorter _ _ t refl (λ words. omega arith)) (load_left running next old t)
+        go (seen.Header n) e is = stops (seen.Header n) (λ k both. absurd cc) e is
+        go (seen.Last n) e is = stops (seen.Last n) (λ k both. absurd cc) e is
+        go (seen.Damaged d) e is = stops (seen.Damaged d) (λ k both. absurd cc) e is
 
 pub refused_ends : (f : RecordFault) → MayEnd (end.Stop (stop_of f))
 refused_ends (fault.Version n) = tt

@@ -24,22 +24,9 @@ use Rattle.opener.specs.declared.work.Stage.{Stage}
 use Rattle.opener.specs.declared.work.Stage.TheVariants.{LockExclusive}
 use Rattle.opener.specs.declared.work.Work.TheVariants.{Runs}
 use Rattle.opener.proofs.Carry.{none_reserved, tied_after, more_changes, image_later, own_if}
+use Rattle.opener.proofs.Reserved.{is_written, write_plain}
 use Rattle.opener.proofs.Stages.{locked_rest}
 use Rattle.opener.proofs.Stopped.{nothing_told}
-
--- a write is a plain call
-pub write_plain : (asked : Call) → CanWrite asked → IsPlain asked
-write_plain (call.Get key) can = absurd can
-write_plain (call.Put key value seconds) can = can
-write_plain (call.Remove key) can = can
-write_plain call.Clear can = can
-write_plain call.Keys can = absurd can
-write_plain call.Count can = absurd can
-write_plain (call.Enable seconds) can = absurd can
-write_plain call.Disable can = absurd can
-write_plain call.Hold can = absurd can
-write_plain call.Release can = absurd can
-write_plain call.Sync can = absurd can
 
 -- what a stage that finds the region as it is wants, under an exclusive lock
 record MayNotice (o : OpenerState) (next : Running) (stage : Stage) : Type 0 where
@@ -62,14 +49,14 @@ may_load o next stage (Some kind) plain mine is reads =
       told = λ start past. reads.2.told (region_after start past);
     })
 
-may_notice : (o : OpenerState) (next : Running) (stage : Stage) (taken : Option LockKind) → IsPlain next.call → lock_by o.holds next.taken ≡ Some Exclusive →
+may_notice : (o : OpenerState) (next : Running) (stage : Stage) (taken : Option LockKind) → CanWrite next.call → lock_by o.holds next.taken ≡ Some Exclusive →
     lock_by o.holds taken ≡ Some Exclusive → (image : Option Image) → o.image ≡ image → Notices image o.holds taken stage → MayNotice o next stage
-may_notice o next stage taken plain mine same None e reads = may_load o next stage (lock_by o.holds taken) plain mine same reads
-may_notice o next stage taken plain mine same (Some i) e is =
+may_notice o next stage taken can mine same None e reads = may_load o next stage (lock_by o.holds taken) (write_plain next.call can) mine same reads
+may_notice o next stage taken can mine same (Some i) e is =
     subst (MayNotice o next) (sym is)
     (record {
-      suits = plain;
-      at = ((λ none. let both = sym e ∙ none in absurd cc), (λ write. mine));
+      suits = write_plain next.call can;
+      at = ((λ none. let both = sym e ∙ none in absurd cc), (λ write. mine), (λ read. let both = sym (is_written next.call can) ∙ read in absurd cc));
       calm = refl;
       owes = λ s none. none;
       told = λ start past. tt;
@@ -80,7 +67,7 @@ pub exclusive_tied : (o : OpenerState) (running next : Running) (stage : Stage) 
     Tries Exclusive Taken s t → Notices o.image o.holds next.taken stage → Tied (running_as o next stage) t
 exclusive_tied o running next stage s t tied same taken tries notices =
     let mine : lock_by o.holds next.taken ≡ Some Exclusive = own_if o.holds next.taken tied.at.2.0 ∙ taken in
-    let may = may_notice o next stage next.taken (write_plain next.call (subst CanWrite (sym same.call) tied.at.1)) mine mine o.image refl notices in
+    let may = may_notice o next stage next.taken (subst CanWrite (sym same.call) tied.at.1) mine mine o.image refl notices in
     tied_after (running_as o running LockExclusive) (running_as o next stage) s t (locked Exclusive s) (λ start past. ⊤) tied tries.0.after refl tied.ended tied.handled
     (sym mine) tied.deep tied.sound ((λ some. absurd (omega (arith, some, tied.at.2.0))), may.suits, may.at) (may.owes t (none_reserved s t (locked Exclusive s) tries.0.after tied.owes)) (nothing_told t.told)
     (λ start past region lawful lock facts e. record {

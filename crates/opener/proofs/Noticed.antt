@@ -22,18 +22,18 @@ use Rattle.region_words.proofs.Notices.{lock_free_read, kept_at_rest, still_whol
 use Rattle.region_words.proofs.ReadLaws.{apart_front, changes_more}
 use Rattle.region_words.proofs.RowsStand.{agrees_crc}
 use Rattle.region_words.proofs.Shows.{whole_shown}
+use Rattle.region_words.proofs.Telling.{told_map}
 use Rattle.loader.specs.declared.loaded.Image.{Image}
 use Rattle.opener.specs.State.{OpenerState}
+use Rattle.opener.specs.Steps.{FindsCurrent}
 use Rattle.opener.specs.Calls.{IsPlain, is_write}
-use Rattle.opener.specs.Ends.{GoesOn, Reads, ReadsBy, is_current, lock_by}
-use Rattle.opener.specs.Opener.{Facts, Tied, HasCause, ImageIs, IsShown, LooksUnder, WasShown, WasPeeked, running_as, stop_found}
-use Rattle.opener.specs.declared.calls.Step.{Step}
+use Rattle.opener.specs.Ends.{Reads, ReadsBy, is_current, lock_by}
+use Rattle.opener.specs.Opener.{Facts, Tied, ImageIs, IsShown, LooksUnder, WasShown, WasPeeked, running_as, stop_found}
 use Rattle.opener.specs.declared.work.Running.{Running}
 use Rattle.opener.specs.declared.work.Stage.{Stage}
 use Rattle.opener.specs.declared.work.Stage.TheVariants.{PeekSequence, LockShared, Load}
 use Rattle.opener.specs.declared.work.Work.TheVariants.{Runs}
 use Rattle.opener.proofs.Carry.{none_reserved, tied_after, told_call, more_changes}
-use Rattle.opener.proofs.EndClauses.{going_cause}
 use Rattle.opener.proofs.Leaves.{Leaving}
 use Rattle.opener.proofs.Ready.{ReadyWith}
 use Rattle.opener.proofs.Same.{SameLock}
@@ -133,13 +133,13 @@ module _ (o : OpenerState) (running next : Running) (peek : Peek) (s t : ShareSt
 
   -- the kept image is the region's
   pub current_ready : (sequence : ℕ) (c : IsCurrent o.image peek sequence) → OnTold t.told (λ h. sequence ≡ sequence_at h.start h.past) →
-      OnTold t.told (λ k. ReadyWith o c.i next peek.changes k.start k.past)
+      OnTold t.told (λ k. ReadyWith (Some peek) o c.i next peek.changes k.start k.past)
   current_ready sequence c told =
-      told_call (running_as o running (PeekSequence peek)) s t (loaded s) (λ start past. sequence ≡ sequence_at start past) (ReadyWith o c.i next peek.changes) tied goes.after told
+      told_call (running_as o running (PeekSequence peek)) s t (loaded s) (λ start past. sequence ≡ sequence_at start past) (ReadyWith (Some peek) o c.i next peek.changes) tied goes.after told
       (λ start past region lawful mine facts e. go start past region lawful facts e)
     where
       go : (start : Region) (past : List Event) → IsRegion start → Lawful start past → Facts (running_as o running (PeekSequence peek)) start past → sequence ≡ sequence_at start past →
-          ReadyWith o c.i next peek.changes start past
+          ReadyWith (Some peek) o c.i next peek.changes start past
       go start past region lawful facts e =
           let w = facts.work.1.0 in
           let image : ImageIs (Some c.i) start past = subst (λ z. ImageIs z start past) c.kept facts.image in
@@ -153,12 +153,13 @@ module _ (o : OpenerState) (running next : Running) (peek : Peek) (s t : ShareSt
             now = λ write ok apart.
                 let held = lock ∙ looks_next write in
                 shown_now c.i start past region lawful apart (None, facts.rests held refl apart) (image.shown ok apart) (c.checksum ∙ facts.work.1.1 held) (c.sequence_is ∙ e);
+            ends = λ reply read. (refl, same.taken ∙ tied.at.2.2 (ap is_write (sym same.same.call) ∙ read));
             rests = λ mine apart. facts.rests (lock ∙ mine) refl apart;
           }
 
   -- else the region is loaded
-  pub reading_tied : (stage : Stage) (result : Step) (new : OpenerState) → Reads o.holds running.taken stage → GoesOn next stage o result new → Tied new t
-  reading_tied stage result new reads on = subst (λ (n : OpenerState). Tied n t) (sym on.1) (go (lock_by o.holds running.taken) refl reads)
+  pub reading_then : (stage : Stage) → Reads o.holds running.taken stage → Tied (running_as o next stage) t
+  reading_then stage reads = go (lock_by o.holds running.taken) refl reads
     where
       free : (b : Bool) → (o.holds == 0) ≡ b → cond b running.taken (Some Exclusive) ≡ None → (o.holds ≡ 0) × (running.taken ≡ None)
       free true zero none = (grind (arith, nat_tests, zero), none)
@@ -190,11 +191,8 @@ module _ (o : OpenerState) (running next : Running) (peek : Peek) (s t : ShareSt
             work = (omega (arith, same.same.begun, facts.work.0), is.2.told (region_after start past));
           }))
 
-  -- and no reason to stop is found
-  pub reading_cause : (stage : Stage) (result : Step) (new : OpenerState) → Reads o.holds running.taken stage → GoesOn next stage o result new →
-      HasCause (Runs running (PeekSequence peek)) result new.work s t
-  reading_cause stage result new reads on = going_cause (Runs running (PeekSequence peek)) next stage o result new s t (go (lock_by o.holds running.taken) reads) on
-    where
-      go : (k : Option LockKind) → ReadsBy k stage → stop_found (Runs next stage) ≡ None
-      go None is = ap (λ z. stop_found (Runs next z)) is
-      go (Some kind) is = ap (λ z. stop_found (Runs next z)) is.1
+-- what the words that were peeked say of the image that is kept
+pub finds : (image : Option Image) (peek : Peek) (sequence : ℕ) (found : Bool) (t : ShareState) → is_current image peek sequence ≡ found → OnTold t.told (λ h. sequence ≡ sequence_at h.start h.past) →
+    FindsCurrent found peek image t
+finds image peek sequence found t is told =
+    told_map t.told (λ h. sequence ≡ sequence_at h.start h.past) (λ h. is_current image peek (sequence_at h.start h.past) ≡ found) (λ h same. sym (ap (is_current image peek) same) ∙ is) told

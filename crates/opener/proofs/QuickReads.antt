@@ -103,7 +103,7 @@ module _ (o : OpenerState) (i : Image) (s m : ShareState) (peek : Peek) (tied : 
               (current_ready o (looking s) (looking s) peek m t peeked (looks_same s) second sequence words told);
         }
       where
-        was : (words : HasWords o.image peek sequence) (start : Region) (past : List Event) → ReadyWith o words.i (looking s) peek.changes start past →
+        was : (words : HasWords o.image peek sequence) (start : Region) (past : List Event) → ReadyWith (Some peek) o words.i (looking s) peek.changes start past →
             WasMap words.i.map (changes_told s.told) (changes_told m.told) start past
         was words start past e =
             subst (λ place. WasMap words.i.map (changes_told s.told) place start past) changes (record { since = e.begun; within = e.placed; map_is = e.found })

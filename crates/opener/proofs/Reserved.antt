@@ -15,13 +15,11 @@ use Rattle.region_words.specs.declared.event.What.{What}
 use Rattle.region_words.specs.declared.event.What.TheVariants.{Store, Grow, Lock, Unlock, Died}
 use Rattle.region_words.proofs.Telling.{told_and}
 use Rattle.opener.specs.State.{OpenerState}
-use Rattle.opener.specs.Calls.{IsPlain}
+use Rattle.opener.specs.Calls.{IsPlain, is_write}
 use Rattle.opener.specs.Counted.{counted}
-use Rattle.opener.specs.Ends.{Leaves}
-use Rattle.opener.specs.Opener.{Tied, MayEnd, PlanIs, running_as}
+use Rattle.opener.specs.Opener.{Tied, PlanIs, running_as}
 use Rattle.opener.specs.Plans.{CanWrite, events_in, room_in}
 use Rattle.opener.specs.Writes.{IsSoundPlan, IsRowOf, PlanStarts, OwesPlan, first_events}
-use Rattle.opener.specs.declared.calls.Step.{Step}
 use Rattle.opener.specs.declared.calls.Stop.{Stop}
 use Rattle.opener.specs.declared.plan.Plan.{Plan}
 use Rattle.opener.specs.declared.plan.Plan.TheVariants.{Append, Rewrite}
@@ -31,7 +29,7 @@ use Rattle.opener.specs.declared.work.Stage.TheVariants as stage
 use Rattle.change_log.specs.declared.call.Call.{Call}
 use Rattle.change_log.specs.declared.call.Call.TheVariants as call
 use Rattle.opener.proofs.Carry.{tied_after, told_call}
-use Rattle.opener.proofs.Leaves.{LeftWith, Leaving, leaves_tied}
+use Rattle.opener.proofs.Leaves.{LeftWith, Leaving}
 use Rattle.opener.proofs.Stopped.{nothing_told}
 
 is_within_more : (room more : ℕ) (what : What) → room ≤ more → IsWithin room what → IsWithin more what
@@ -118,14 +116,14 @@ module _ (o : OpenerState) (running : Running) (plan : Plan) (s t : ShareState) 
 
   -- nothing was reserved, and the call ends
   module _ (goes : Goes (unmoved s) s t) where
-    leaving : IsPlain running.call → Leaving o o running running s t
-    leaving plain =
+    pub unreserved_leaving : IsPlain running.call → Leaving o o running running s t
+    unreserved_leaving plain =
         record { left = unmoved s; after = goes.after; alive = refl; lock = refl; places = tied.owes; who = refl; handled = refl; holds = refl; sound = tied.sound; taken = refl; plain = plain }
 
-    pub unreserved_left : (why : Stop) → OnTold t.told (λ k. LeftWith o running (end.Stop why) k.start k.past)
+    pub unreserved_left : (why : Stop) → OnTold t.told (λ k. LeftWith None o running (end.Stop why) k.start k.past)
     unreserved_left why =
-        told_call (running_as o running (stage.Reserve plan)) s t (unmoved s) (λ start past. ⊤) (LeftWith o running (end.Stop why)) tied goes.after (nothing_told t.told)
-        (λ start past region lawful lock facts e. record { begun = facts.work.0; image = facts.image; end_is = tt; rests = λ held. facts.rests held refl })
+        told_call (running_as o running (stage.Reserve plan)) s t (unmoved s) (λ start past. ⊤) (LeftWith None o running (end.Stop why)) tied goes.after (nothing_told t.told)
+        (λ start past region lawful lock facts e. record { begun = facts.work.0; image = facts.image; end_is = tt; ends = tt; rests = λ held. facts.rests held refl })
 
     -- the plan is still the one that the call makes
     pub unreserved_plan : OnTold t.told (λ k. PlanIs s.who running plan k.start k.past)
@@ -133,10 +131,6 @@ module _ (o : OpenerState) (running : Running) (plan : Plan) (s t : ShareState) 
         subst (λ w. OnTold t.told (λ k. PlanIs w running plan k.start k.past)) (sym tied.who)
         (told_call (running_as o running (stage.Reserve plan)) s t (unmoved s) (λ start past. ⊤) (PlanIs o.who running plan) tied goes.after (nothing_told t.told)
         (λ start past region lawful lock facts e. facts.work.1.2))
-
-    pub unreserved_tied : (why : Stop) (ended : ℕ) (result : Step) (new : OpenerState) → IsPlain running.call → MayEnd (end.Stop why) → Leaves running (end.Stop why) ended o result new → Tied new t
-    unreserved_tied why ended result new plain may leaves =
-        leaves_tied o o running running (stage.Reserve plan) s t tied (leaving plain) (end.Stop why) ended result new may (unreserved_left why) leaves
 
 -- where places were not refused
 pub reserving_stops : (asked : ℕ) (stop : ShareStop) (s t : ShareState) → (stop ≡ share.Memory → ⊥) → (stop ≡ share.JournalFull → ⊥) → StopsReserving asked stop s t → Stops stop s t
@@ -158,3 +152,16 @@ write_plain call.Disable can = absurd can
 write_plain call.Hold can = absurd can
 write_plain call.Release can = absurd can
 write_plain call.Sync can = absurd can
+
+pub is_written : (asked : Call) → CanWrite asked → is_write asked ≡ true
+is_written (call.Put key value seconds) can = refl
+is_written (call.Remove key) can = refl
+is_written call.Clear can = refl
+is_written (call.Get key) can = absurd can
+is_written call.Keys can = absurd can
+is_written call.Count can = absurd can
+is_written (call.Enable seconds) can = absurd can
+is_written call.Disable can = absurd can
+is_written call.Hold can = absurd can
+is_written call.Release can = absurd can
+is_written call.Sync can = absurd can

@@ -1,35 +1,36 @@
--- What an event of a plan leaves, and the end of a write.
-use Rattle.std.proofs.Common.{arith, ◌≡◌, ◌≢◌, ℕ, List, [], ◌∷◌, refl, sym, subst, ap, inr, lit≤}
-use Rattle.std.specs.Prelude.{◌-◌, Option, Some, None}
+-- How a step ends that made an event of a plan.
+use Rattle.std.proofs.Common.{arith, ◌≡◌, ◌≢◌, ◌+◌, ℕ, List, [], ◌∷◌, ◌++◌, length, refl, sym, ◌∙◌, subst, ap, inr, lit≤, append-nil}
+use Rattle.std.specs.Prelude.{Option, Some, None}
 use Rattle.expiring_map.specs.Map.{Map}
-use Rattle.change_log.specs.declared.call.Reply.TheVariants.{Done}
-use Rattle.region_words.specs.Lawful.{room_of}
-use Rattle.region_words.specs.Making.{Making, MakesFirst, stored_of}
+use Rattle.region_words.specs.Making.{Making, MakesFirst, next_of, stored_of}
 use Rattle.region_words.specs.Owing.{IsOwing}
+use Rattle.region_words.specs.Past.{change_of}
 use Rattle.region_words.specs.Rows.{Row}
 use Rattle.region_words.specs.Share.{ShareState, stored}
-use Rattle.region_words.specs.Told.{OnTold, changes_told}
+use Rattle.region_words.specs.Told.{changes_told}
 use Rattle.region_words.specs.declared.event.What.{What}
 use Rattle.region_words.specs.declared.next.Stored.TheVariants as next
-use Rattle.loader.specs.declared.loaded.Image.{Image}
 use Rattle.opener.specs.State.{OpenerState}
-use Rattle.opener.specs.Continues.{SameCall}
-use Rattle.opener.specs.Ends.{Rewritten, Written}
-use Rattle.opener.specs.Opener.{Tied, HasCause, KeepsCall, MakesOne, OnAnswer, IsAnswer, running_as}
-use Rattle.opener.specs.Plans.{CanWrite}
-use Rattle.opener.specs.Writes.{IsSoundPlan, first_events, image_after}
+use Rattle.opener.specs.Counted.{with_stored}
+use Rattle.opener.specs.Ends.{GoesOn, Rewritten}
+use Rattle.opener.specs.Opener.{Tied, running_as}
+use Rattle.opener.specs.Plans.{events_in}
+use Rattle.opener.specs.Steps.{Steps}
+use Rattle.opener.specs.Writes.{IsSoundPlan, commits_in, commits_of, first_events, making_of}
 use Rattle.opener.specs.declared.calls.Step.{Step}
 use Rattle.opener.specs.declared.plan.Plan.{Plan}
 use Rattle.opener.specs.declared.plan.Plan.TheVariants.{Append, Rewrite}
 use Rattle.opener.specs.declared.work.Running.{Running}
-use Rattle.opener.specs.declared.work.End.TheVariants as end
 use Rattle.opener.specs.declared.work.Stage.TheVariants.{Store}
 use Rattle.opener.specs.declared.work.Work.TheVariants.{Runs}
-use Rattle.opener.proofs.EndClauses.{going_call, going_cause, going_answer, leaves_call, leaves_cause}
+use Rattle.opener.proofs.AddsBy.{event_goes}
+use Rattle.opener.proofs.EndClauses.{going_answer, going_call, going_acts, going_cause, going_image}
+use Rattle.opener.proofs.Falling.{few_stores, going_falls, store_shorter}
 use Rattle.opener.proofs.Followed.{followed_tied}
-use Rattle.opener.proofs.Reserved.{write_plain}
-use Rattle.opener.proofs.Same.{SameLock}
-use Rattle.opener.proofs.Written.{written_tied, written_answer}
+use Rattle.opener.proofs.Same.{stored_same}
+use Rattle.opener.proofs.StopClauses.{takes_same}
+use Rattle.opener.proofs.Stored.{commits_on, places_on, stored_tied, with_making}
+use Rattle.opener.proofs.Written.{rewrite_ends, writes}
 
 -- whether events are left
 pub more_left : (events : List What) → stored_of events ≡ next.More → events ≢ []
@@ -46,41 +47,43 @@ some_first who running (Append a map) sound = sound.0
 some_first who running (Rewrite r None map) sound = sound.0
 some_first who running (Rewrite r (Some a) map) sound = sound.0
 
-pub stores_one : (old new : List What) (s t : ShareState) → MakesFirst old new s t → MakesOne s t
-stores_one old new s t made = inr (stored made.0 s, made.2.after, lit≤ tt)
+module _ {o : OpenerState} {running : Running} {plan : Plan} {result : Step} {new : OpenerState} {s t : ShareState} (tied : Tied (running_as o running (Store plan)) s) (b : Making) (next : Running)
+    (more : next ≡ with_stored (next_of (first_events plan)) running) (made : MakesFirst (first_events plan) b.events s t) where
+  -- the call goes on with the events that are left
+  pub stores_to : (then : Plan) → commits_in plan ≡ change_of made.0 ++ commits_in then → events_in plan ≡ events_in then + 1 → Tied (running_as o next (Store then)) t → GoesOn next (Store then) o result new →
+      Steps o running (Store plan) result new s t
+  stores_to then commits fewer left on =
+      let lock = stored_same (next_of (first_events plan)) running next more in
+      record {
+        tied = subst (λ (n : OpenerState). Tied n t) (sym on.1) left;
+        makes = inr (stored made.0 s, made.2.after, lit≤ tt);
+        adds = event_goes o.who running next plan o result new s t made.0 b.events then made.2 (more ∙ ap (λ l. with_stored (next_of l) running) made.1) commits on;
+        call = going_call o.who o.holds running next (Store then) o result new lock.same refl on;
+        cause = going_cause (Runs running (Store plan)) next (Store then) o result new s t refl on;
+        takes = takes_same (Runs running (Store plan)) s t made.2.after.holds;
+        acts = going_acts (Store plan) o.image next (Store then) o result new s t (b.events, made, fewer) on;
+        answer = going_answer next (Store then) o result new _ on;
+        place = going_answer next (Store then) o result new _ on;
+        image = going_image (Store plan) next (Store then) o o.image result new t (λ looks. absurd cc) on;
+        falls = going_falls (Runs running (Store plan)) next (Store then) o result new t (store_shorter running next plan b.events s t made (Store then) (λ words. omega (arith, few_stores words then, fewer))) on;
+      }
 
--- the call is over, or gives up its lock
-pub written_call : (o : OpenerState) (running next : Running) (image : Image) (ended : ℕ) (result : Step) (new : OpenerState) → SameCall running next → CanWrite running.call →
-    Written next image ended o result new → KeepsCall o.who o.holds running result new
-written_call o running next image ended result new same can written =
-    leaves_call o.who o.holds running next (end.Answer (ended - 1) Done) ended (record o { image = Some image }) result new same (write_plain running.call can) tt refl refl written
+  -- of the same row
+  pub stores_on : b.standing ≡ (making_of plan).standing → b.events ≢ [] → ((row : Row) → IsOwing row (first_events plan) s → IsOwing row b.events t) →
+      GoesOn next (Store (with_making plan b)) o result new → Steps o running (Store plan) result new s t
+  stores_on stands some owing on =
+      let lock = stored_same (next_of (first_events plan)) running next more in
+      stores_to (with_making plan b) (commits_on o.who running next lock.same b made.0 plan made.1) (places_on o.who running next lock.same b made.0 plan made.1)
+      (stored_tied o running next plan b s t tied lock made stands some owing) on
 
-pub written_cause : (o : OpenerState) (running next : Running) (plan : Plan) (image : Image) (ended : ℕ) (result : Step) (new : OpenerState) (s t : ShareState) →
-    Written next image ended o result new → HasCause (Runs running (Store plan)) result new.work s t
-written_cause o running next plan image ended result new s t written =
-    leaves_cause (Runs running (Store plan)) next (end.Answer (ended - 1) Done) ended (record o { image = Some image }) result new s t refl tt written
-
--- after the last event of a rewrite
-module _ (o : OpenerState) (running next : Running) (r b : Making) (map : Map) (s t : ShareState) (lock : SameLock running next) (made : MakesFirst r.events b.events s t)
-    (stands : b.standing ≡ r.standing) (done : b.events ≡ []) (owing : (row : Row) → IsOwing row r.events s → IsOwing row b.events t) (ended : ℕ) (count : ended ≡ changes_told t.told)
-    (result : Step) (new : OpenerState) where
-  pub rewritten_tied : (then : Option Making) → Tied (running_as o running (Store (Rewrite r then map))) s → Rewritten next b.standing then map ended o result new → Tied new t
-  rewritten_tied (Some a) tied on = subst (λ (n : OpenerState). Tied n t) (sym on.1) (followed_tied o running next r b a map s t tied lock made stands done owing)
-  rewritten_tied None tied written =
-      written_tied o running next (Rewrite r None map) r b map s t tied lock tied.at.1 tied.owes.row (ap room_of tied.owes.row_is) tied.owes.owing (λ start past leads. leads) refl (omega arith) tied.at.2.1.1 made stands done
-      (owing tied.owes.row tied.owes.owing) ended count result new written
-
-  pub rewritten_answer : (then : Option Making) → Tied (running_as o running (Store (Rewrite r then map))) s → Rewritten next b.standing then map ended o result new →
-      OnAnswer result (λ a. OnTold t.told (λ h. IsAnswer a h.start h.past))
-  rewritten_answer (Some a) tied on = going_answer next (Store (Append a map)) o result new _ on
-  rewritten_answer None tied written =
-      written_answer o running next (Rewrite r None map) r b map s t tied lock tied.at.1 tied.owes.row (ap room_of tied.owes.row_is) tied.owes.owing (λ start past leads. leads) refl (omega arith) tied.at.2.1.1 made stands done
-      (owing tied.owes.row tied.owes.owing) ended count result new written
-
-  pub rewritten_call : (then : Option Making) → CanWrite running.call → Rewritten next b.standing then map ended o result new → KeepsCall o.who o.holds running result new
-  rewritten_call (Some a) can on = going_call o.who o.holds running next (Store (Append a map)) o result new lock.same refl on
-  rewritten_call None can written = written_call o running next (image_after b map) ended result new lock.same can written
-
-  pub rewritten_cause : (then : Option Making) → Rewritten next b.standing then map ended o result new → HasCause (Runs running (Store (Rewrite r then map))) result new.work s t
-  rewritten_cause (Some a) on = going_cause (Runs running (Store (Rewrite r (Some a) map))) next (Store (Append a map)) o result new s t refl on
-  rewritten_cause None written = written_cause o running next (Rewrite r None map) (image_after b map) ended result new s t written
+-- after the last event of a rewrite an item is appended, or the call ends
+module _ {o : OpenerState} {running : Running} {r : Making} {map : Map} {result : Step} {new : OpenerState} {s t : ShareState} (b : Making) (next : Running)
+    (more : next ≡ with_stored (next_of r.events) running) (made : MakesFirst r.events b.events s t) (stands : b.standing ≡ r.standing) (done : b.events ≡ [])
+    (owing : (row : Row) → IsOwing row r.events s → IsOwing row b.events t) (ended : ℕ) (count : ended ≡ changes_told t.told) where
+  pub rewrites : (then : Option Making) → Tied (running_as o running (Store (Rewrite r then map))) s → Rewritten next b.standing then map ended o result new →
+      Steps o running (Store (Rewrite r then map)) result new s t
+  rewrites None tied written = writes o running next (Rewrite r None map) b map s t tied (rewrite_ends o.who running r map) more made stands done owing ended count written
+  rewrites (Some a) tied on =
+      let only : r.events ≡ made.0 ∷ [] = made.1 ∙ ap (λ l. made.0 ∷ l) done in
+      stores_to tied b next more made (Append a map) (ap (λ l. commits_of l ++ commits_of a.events) only ∙ ap (λ l. l ++ commits_of a.events) (append-nil (change_of made.0))) (omega (arith, ap length only))
+      (followed_tied o running next r b a map s t tied (stored_same (next_of r.events) running next more) made stands done owing) on

@@ -1,5 +1,5 @@
 -- What a row leaves once its last event is made: the image that it leads to, whole.
-use Rattle.std.proofs.Common.{◌≡◌, ℕ, ◌+◌, ◌≤◌, true, List, [], ◌∷◌, ◌++◌, refl, sym, ◌∙◌, subst, ap, arith, append-nil}
+use Rattle.std.proofs.Common.{◌≡◌, ℕ, ◌≤◌, true, List, [], ◌∷◌, ◌++◌, refl, sym, ◌∙◌, subst, ap, arith, append-nil}
 use Rattle.std.specs.Prelude.{Option, Some, None, IsTrue, is_some, option_and_then}
 use Rattle.expiring_map.specs.Map.{Map}
 use Rattle.change_log.specs.Acts.{replay}
@@ -13,6 +13,9 @@ use Rattle.region_words.specs.Lawful.{Lawful, Between, Reaches, map_after}
 use Rattle.region_words.specs.Local.{event_of}
 use Rattle.region_words.specs.Making.{Making}
 use Rattle.region_words.specs.Outcome.{AtRest}
+use Rattle.crc_words.specs.Crc.{crc}
+use Rattle.region_words.specs.Images.{sequence_at}
+use Rattle.region_words.specs.Standings.{standing_of}
 use Rattle.region_words.specs.declared.standing.Standing.{Standing}
 use Rattle.region_words.specs.declared.event.What.{What}
 use Rattle.region_words.specs.declared.event.What.TheVariants.{Store, Grow, Lock, Unlock, Died}
@@ -21,7 +24,9 @@ use Rattle.region_words.proofs.LastStore.{no_last_growth}
 use Rattle.region_words.proofs.MainLaw.{main_law, whole_law}
 use Rattle.region_words.proofs.Notices.{kept_at_rest, whole_history}
 use Rattle.region_words.proofs.Shows.{whole_shown}
-use Rattle.opener.specs.Opener.{IsShown, IsImage}
+use Rattle.region_words.proofs.RowsStand.{agrees_crc}
+use Rattle.loader.specs.declared.loaded.Image.{Image}
+use Rattle.opener.specs.Opener.{IsShown, IsImage, MatchesRegion}
 use Rattle.opener.specs.Writes.{HasStanding, Leads, commits_of, image_after}
 
 -- the last event of a row is a store
@@ -33,9 +38,21 @@ last_is_store start past who (Lock kind) room region ok l is leads = absurd is
 last_is_store start past who Unlock room region ok l is leads = absurd is
 last_is_store start past who (Died torn) room region ok l is leads = absurd is
 
-has_map : (o : Option Map) → is_some o ≡ true → (m : Map) × (o ≡ Some m)
+pub has_map : (o : Option Map) → is_some o ≡ true → (m : Map) × (o ≡ Some m)
 has_map None e = absurd cc
 has_map (Some m) e = (m, refl)
+
+-- a whole image has the checksum and the sequence of its region
+pub whole_matches : (i : Image) (start : Region) (past : List Event) (n : ℕ) → shown (region_after start past) ≡ Whole n → i.standing.checksum ≡ (standing_of (region_after start past) n).checksum →
+    i.standing.sequence ≡ sequence_at start past → MatchesRegion (Some i) start past
+whole_matches i start past n shows sum sequence =
+    let r = region_after start past in
+    let w = whole_shown r n shows in
+    (sum ∙ ap (λ z. crc (payload_of r z)) w.0 ∙ agrees_crc r (record_of r).size (record_of r).checksum w.1, sequence)
+
+pub shown_matches : (i : Image) (start : Region) (past : List Event) → IsShown i start past → MatchesRegion (Some i) start past
+shown_matches i start past is =
+    whole_matches i start past i.standing.size is.kept.shows (ap (λ (s : Standing). s.checksum) is.known.known) (ap (λ (s : Standing). s.sequence) is.known.known)
 
 -- A region that shows a whole image at rest, of which this is known, shows the map of the history.
 module _ (start : Region) (past : List Event) (region : IsRegion start) (ok : IsAccepted start) (l : Lawful start past) (apart : Apart start past) (rests : AtRest start past)
@@ -96,17 +113,15 @@ module _ (start : Region) (past : List Event) (who : ℕ) (what : What) (region 
       let w = whole ok apart in
       shown_whole start now region ok l apart (room, reached apart) k m (left_standing k m start now none leads ok apart) (left_map k m start now none leads ok apart) w.0 w.1
 
+  pub row_is_shown : IsAccepted start → Apart start now → IsShown (image_after k m) start now
+  row_is_shown ok apart =
+      let w = whole ok apart in
+      whole_is_shown start now region ok l apart (room, reached apart) k m (left_standing k m start now none leads ok apart) (left_map k m start now none leads ok apart) w.0 w.1
+
   pub row_ended : IsImage (image_after k m) start now
   row_ended =
       record {
         file = left_file k m start now none leads;
         firm = left_firm k m start now none leads;
-        shown = λ ok apart.
-            let w = whole ok apart in
-            record {
-              later = [];
-              earlier = now;
-              is = refl;
-              shown = whole_is_shown start now region ok l apart (room, reached apart) k m (left_standing k m start now none leads ok apart) (left_map k m start now none leads ok apart) w.0 w.1;
-            };
+        shown = λ ok apart. record { later = []; earlier = now; is = refl; shown = row_is_shown ok apart };
       }

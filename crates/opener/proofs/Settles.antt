@@ -46,6 +46,7 @@ use Rattle.opener.specs.declared.work.Stage.{Stage}
 use Rattle.opener.specs.declared.work.Stage.TheVariants as stage
 use Rattle.opener.specs.declared.work.Work.{Work}
 use Rattle.opener.specs.declared.work.Work.TheVariants.{Idle, Ended, Runs}
+use Rattle.opener.proofs.Added.{made_first}
 use Rattle.opener.proofs.Adding.{notices_nothing}
 use Rattle.opener.proofs.Carry.{exclusive_some, still_held}
 use Rattle.opener.proofs.Settling.{answer_settles}
@@ -167,31 +168,6 @@ first_settles o h idle none = λ ok apart.
       of_call = refl;
       earlier = All-nil (λ (a : Answer). a.ended ≤ length (changes_of h.past));
     })
-
-begun_none : (who now : ℕ) (own : Option Act) → (more : List Change) × AreOfAct who now own more
-begun_none who now None = ([], refl)
-begun_none who now (Some act) = (record { maker = who; act = act } ∷ [], inl refl)
-
--- the changes that a running call has made are the first of those that it makes
-made_first : (who : ℕ) (c : Running) (at : Stage) (made : List Change) → AreMadeAt who c at made → AreBegun who c.call c.now made
-made_first who c at made are = go at are
-  where
-    nothing : made ≡ [] → AreBegun who c.call c.now made
-    nothing e = subst (AreBegun who c.call c.now) (sym e) (begun_none who c.now (act_of c.call c.now))
-
-    go : (at : Stage) → AreMadeAt who c at made → AreBegun who c.call c.now made
-    go (stage.Store plan) are = (commits_in plan, are)
-    go (stage.Unlock (end.Answer place reply)) are = ([], subst (AreOfCall who c.call c.now) (sym (append-nil made)) are)
-    go (stage.Unlock (end.Stop stop)) are = nothing are
-    go stage.PeekChecksum are = nothing are
-    go (stage.PeekSequence peek) are = nothing are
-    go stage.LockShared are = nothing are
-    go stage.LockExclusive are = nothing are
-    go (stage.Load loading) are = nothing are
-    go stage.Size are = nothing are
-    go (stage.Reserve plan) are = nothing are
-    go stage.Hold are = nothing are
-    go stage.Release are = nothing are
 
 -- What is settled so far is legal.
 module _ (who : ℕ) (start : Region) (past : List Event) (own : List Answer) where

@@ -5,7 +5,6 @@ use Rattle.kv_pairs.specs.Growth.{largest}
 use Rattle.change_log.specs.Settled.{AreOfCall}
 use Rattle.change_log.specs.declared.call.Call.{Call}
 use Rattle.change_log.specs.declared.call.Call.TheVariants as call
-use Rattle.lock_rules.specs.declared.table.LockKind.{LockKind}
 use Rattle.lock_rules.specs.declared.table.LockKind.TheVariants.{Exclusive}
 use Rattle.region_words.specs.Region.{Region, IsRegion, IsAccepted, file_size, size_of}
 use Rattle.region_words.specs.Past.{region_after}
@@ -22,12 +21,10 @@ use Rattle.loader.specs.declared.loaded.Image.{Image}
 use Rattle.opener.specs.State.{OpenerState}
 use Rattle.opener.specs.Calls.{IsPlain}
 use Rattle.opener.specs.Continues.{SameCall}
-use Rattle.opener.specs.Ends.{Leaves, LeavesBy, OnImage, sized_image, lock_by}
-use Rattle.opener.specs.Opener.{Tied, Facts, HasCause, HasReason, ImageIs, IsImage, IsSeen, IsShown, PlanIs, image_at, running_as}
+use Rattle.opener.specs.Ends.{OnImage, sized_image, lock_by}
+use Rattle.opener.specs.Opener.{Tied, Facts, HasReason, ImageIs, IsImage, IsSeen, IsShown, MayEnd, PlanIs, image_at, running_as}
 use Rattle.opener.specs.Writes.{commits_in}
 use Rattle.opener.specs.Plans.{CanWrite, IsNotPlanned, IsPlanOf, IsSoundImage, refusal_of}
-use Rattle.opener.specs.declared.calls.Step.{Step}
-use Rattle.opener.specs.declared.calls.Step.TheVariants as step
 use Rattle.opener.specs.declared.calls.Stop.{Stop}
 use Rattle.opener.specs.declared.calls.Stop.TheVariants as why
 use Rattle.opener.specs.declared.plan.Plan.{Plan}
@@ -36,7 +33,7 @@ use Rattle.opener.specs.declared.work.End.TheVariants as end
 use Rattle.opener.specs.declared.work.Stage.TheVariants.{Size, Reserve}
 use Rattle.opener.specs.declared.work.Work.TheVariants.{Runs}
 use Rattle.opener.proofs.Carry.{none_reserved, told_call, told_from, tied_from}
-use Rattle.opener.proofs.Leaves.{LeftWith, leaves_tied}
+use Rattle.opener.proofs.Leaves.{LeftWith, Leaving}
 use Rattle.opener.proofs.Planned.{planned_reserves, planned_sound, planned_commits}
 use Rattle.opener.proofs.Starting.{IsBeside, planned_leads, planned_starts}
 use Rattle.opener.proofs.Stopped.{nothing_told}
@@ -59,7 +56,7 @@ sized_sound i size sound (pages, some, most) =
     }
 
 -- a write may be one that gives its lock up
-can_plain : (asked : Call) → CanWrite asked → IsPlain asked
+pub can_plain : (asked : Call) → CanWrite asked → IsPlain asked
 can_plain (call.Put key value seconds) can = can
 can_plain (call.Remove key) can = can
 can_plain call.Clear can = tt
@@ -162,8 +159,7 @@ module _ (o : OpenerState) (running next : Running) (size : ℕ) (s t : ShareSta
         go (Some i) kept sum is_plan = made i kept sum is_plan
 
   -- it isn't made
-  module _ (stop : Stop) (ended : ℕ) (result : Step) (new : OpenerState) (refused : OnImage o.image (λ i. IsNotPlanned running.call running.now (sized_image i size) stop))
-      (leaves : Leaves next (end.Stop stop) ended given result new) where
+  module _ (stop : Stop) (refused : OnImage o.image (λ i. IsNotPlanned running.call running.now (sized_image i size) stop)) where
     of_write : IsOfWrite stop
     of_write = go o.image tied.at.2.0 refused
       where
@@ -171,10 +167,12 @@ module _ (o : OpenerState) (running next : Running) (size : ℕ) (s t : ShareSta
         go None some refused = absurd (some refl)
         go (Some i) some refused = let j = sized_image i size in stop_of_write running.call running.now j.standing j.map stop refused
 
-    pub refused_tied : Tied new t
-    refused_tied =
-        leaves_tied o given running next Size s t tied
-        (record {
+    pub refused_ends : MayEnd (end.Stop stop)
+    refused_ends = is_seen stop of_write
+
+    pub refused_leaving : Leaving o given running next s t
+    refused_leaving =
+        record {
           left = loaded s;
           after = goes.after;
           alive = refl;
@@ -186,12 +184,13 @@ module _ (o : OpenerState) (running next : Running) (size : ℕ) (s t : ShareSta
           sound = tt;
           taken = taken;
           plain = can_plain next.call (subst CanWrite (sym same.call) tied.at.1);
-        })
-        (end.Stop stop) ended result new (is_seen stop of_write)
-        (told_call (running_as o running Size) s t (loaded s) (λ start past. ⊤) (LeftWith given next (end.Stop stop)) tied goes.after (nothing_told t.told)
+        }
+
+    pub refused_left : OnTold t.told (λ k. LeftWith None given next (end.Stop stop) k.start k.past)
+    refused_left =
+        told_call (running_as o running Size) s t (loaded s) (λ start past. ⊤) (LeftWith None given next (end.Stop stop)) tied goes.after (nothing_told t.told)
         (λ start past region lawful lock_is facts e.
-        record { begun = omega (arith, same.begun, facts.work.0); image = tt; end_is = tt; rests = λ held apart. facts.rests (lock ∙ held) refl apart }))
-        leaves
+        record { begun = omega (arith, same.begun, facts.work.0); image = tt; end_is = tt; ends = tt; rests = λ held apart. facts.rests (lock ∙ held) refl apart })
 
     -- the reason is found
     abbrev IsFound : Region → List Event → Type 0
@@ -211,8 +210,8 @@ module _ (o : OpenerState) (running next : Running) (size : ℕ) (s t : ShareSta
         reason now j e (inl memory) = inl memory
         reason now j e (inr found) = inr (ap (λ (i : Image). refusal_of running.call running.now i.standing i.map) e ∙ found)
 
-    has_reason : OnImage o.image (λ i. i.standing.checksum < 2 ^ 32) → HasReason (Runs running Size) stop s t
-    has_reason sum = by stop of_write (told_of o.image refl sum refused)
+    pub refused_reason : OnImage o.image (λ i. i.standing.checksum < 2 ^ 32) → HasReason (Runs running Size) stop s t
+    refused_reason sum = by stop of_write (told_of o.image refl sum refused)
       where
         told_of : (image : Option Image) → o.image ≡ image → OnImage image (λ i. i.standing.checksum < 2 ^ 32) → OnImage image (λ i. IsNotPlanned running.call running.now (sized_image i size) stop) →
             OnTold t.told (λ h. IsFound h.start h.past)
@@ -235,12 +234,3 @@ module _ (o : OpenerState) (running next : Running) (size : ℕ) (s t : ShareSta
         by why.SequenceEnd is told = other why.SequenceEnd (λ e. absurd cc) told
         by why.ExpiryOff is told = other why.ExpiryOff (λ e. absurd cc) told
         by why.ExpiryRange is told = other why.ExpiryRange (λ e. absurd cc) told
-
-    pub refused_cause : OnImage o.image (λ i. i.standing.checksum < 2 ^ 32) → HasCause (Runs running Size) result new.work s t
-    refused_cause sum = go next.taken leaves
-      where
-        go : (held : Option LockKind) → LeavesBy held next (end.Stop stop) ended given result new → HasCause (Runs running Size) result new.work s t
-        go None left = subst (λ r. HasCause (Runs running Size) r new.work s t) (sym left.0) (has_reason sum)
-        go (Some kind) left =
-            subst (λ r. HasCause (Runs running Size) r new.work s t) (sym left.0)
-            (subst (λ (n : OpenerState). HasCause (Runs running Size) step.Going n.work s t) (sym left.1) (has_reason sum))

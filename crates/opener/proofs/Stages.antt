@@ -43,7 +43,7 @@ pub peeked_tied : (o : OpenerState) (running next : Running) (peek : Peek) (s t 
 peeked_tied o running next peek s t tied same taken goes checksum changes =
     tied_after (running_as o running PeekChecksum) (running_as o next (PeekSequence peek)) s t (loaded s)
     (λ start past. (peek.checksum ≡ checksum_at start past) × (peek.changes ≡ length (changes_of past))) tied goes.after refl tied.ended tied.handled (tied.holds ∙ ap (lock_by o.holds) (sym taken)) tied.deep tied.sound
-    ((λ some. taken ∙ tied.at.0 some), subst IsPlain (sym same.call) tied.at.1, (tied.at.2.0, looks_on running next (lock_by o.holds next.taken) (lock_by o.holds running.taken) same.call (ap (lock_by o.holds) (sym taken)) tied.at.2.1))
+    ((λ some. taken ∙ tied.at.0 some), subst IsPlain (sym same.call) tied.at.1, (tied.at.2.0, looks_on running next (lock_by o.holds next.taken) (lock_by o.holds running.taken) same.call (ap (lock_by o.holds) (sym taken)) tied.at.2.1, (λ read. taken ∙ tied.at.2.2 (ap is_write (sym same.call) ∙ read))))
     (none_reserved s t (loaded s) goes.after tied.owes) (told_and t.told _ _ _ (λ h p q. (p, q)) checksum (changes_are t.told peek.changes changes))
     (λ start past region lawful lock facts e. record {
       image = facts.image;

@@ -1,5 +1,5 @@
 -- What a stage's clauses say where its call on the share was not answered.
-use Rattle.std.proofs.Common.{◌≡◌, ℕ, refl, sym, subst, ap, inl, inr, lit≤}
+use Rattle.std.proofs.Common.{◌≡◌, ℕ, refl, sym, ◌∙◌, subst, ap, inl, inr, lit≤}
 use Rattle.std.specs.Prelude.{Option, Some, None}
 use Rattle.change_log.specs.declared.call.Answer.{Answer}
 use Rattle.lock_rules.specs.declared.table.LockKind.{LockKind}
@@ -7,8 +7,9 @@ use Rattle.region_words.specs.Share.{ShareState, Fails, Stops, StopsTrying, Stop
 use Rattle.region_words.specs.declared.stops.ShareStop.{ShareStop}
 use Rattle.region_words.specs.declared.stops.ShareStop.TheVariants.{Failed, Turn, Memory, JournalFull}
 use Rattle.opener.specs.State.{OpenerState}
-use Rattle.opener.specs.Calls.{AfterStop}
+use Rattle.opener.specs.Calls.{AfterStop, IsTried}
 use Rattle.opener.specs.Continues.{SameCall}
+use Rattle.opener.specs.Steps.{ActsAt, KeepsImage, TakesTried}
 use Rattle.opener.specs.Opener.{HasCause, HasReason, HasStopped, KeepsCall, MakesOne, OnAnswer, stop_found}
 use Rattle.opener.specs.declared.calls.Step.{Step}
 use Rattle.opener.specs.declared.calls.Step.TheVariants as step
@@ -36,12 +37,6 @@ tried_makes kind Turn s t stops = inr (turned_away s, stops.after, lit≤ tt)
 tried_makes kind Failed s t stops = inr (failed s, stops.after, lit≤ tt)
 tried_makes kind Memory s t stops = inr (unmoved s, stops.0.after, lit≤ tt)
 tried_makes kind JournalFull s t stops = inr (unmoved s, stops.0.after, lit≤ tt)
-
-pub reserved_makes : (asked : ℕ) (stop : ShareStop) (s t : ShareState) → StopsReserving asked stop s t → MakesOne s t
-reserved_makes asked Turn s t stops = inr (turned_away s, stops.after, lit≤ tt)
-reserved_makes asked Failed s t stops = inr (failed s, stops.after, lit≤ tt)
-reserved_makes asked Memory s t stops = inr (unmoved s, stops.after, lit≤ tt)
-reserved_makes asked JournalFull s t stops = inr (unmoved s, stops.0.after, lit≤ tt)
 
 pub same_call : (running : Running) → SameCall running running
 same_call running = record { call = refl; now = refl; begun = refl }
@@ -87,21 +82,48 @@ stopped_cause Memory o running stage result new s t after stops = absurd stops
 stopped_cause JournalFull o running stage result new s t after stops = absurd stops
 
 pub tried_cause : (kind : LockKind) (stop : ShareStop) (o : OpenerState) (running : Running) (stage : Stage) (result : Step) (new : OpenerState) (s t : ShareState) →
-    stop_found (Runs running stage) ≡ None → AfterStop stop o running stage result new → StopsTrying kind stop s t → HasCause (Runs running stage) result new.work s t
-tried_cause kind Turn o running stage result new s t none after stops =
+    stop_found (Runs running stage) ≡ None → IsTried (Runs running stage) kind → AfterStop stop o running stage result new → StopsTrying kind stop s t → HasCause (Runs running stage) result new.work s t
+tried_cause kind Turn o running stage result new s t none is_tried after stops =
     subst (λ r. HasCause (Runs running stage) r new.work s t) (sym after.0) (stops, ap (λ (n : OpenerState). n.work) after.1)
-tried_cause kind Failed o running stage result new s t none after stops =
+tried_cause kind Failed o running stage result new s t none is_tried after stops =
     subst (λ r. HasCause (Runs running stage) r new.work s t) (sym after.0) (fault_reason (Runs running stage) s t stops)
-tried_cause kind Memory o running stage result new s t none after stops =
+tried_cause kind Memory o running stage result new s t none is_tried after stops =
     subst (λ r. HasCause (Runs running stage) r new.work s t) (sym after.0) (reasoned (Runs running stage) why.Memory s t none tt)
-tried_cause kind JournalFull o running stage result new s t none after stops =
-    subst (λ r. HasCause (Runs running stage) r new.work s t) (sym after.0) (reasoned (Runs running stage) why.JournalFull s t none (inl (kind, stops)))
+tried_cause kind JournalFull o running stage result new s t none is_tried after stops =
+    subst (λ r. HasCause (Runs running stage) r new.work s t) (sym after.0) (reasoned (Runs running stage) why.JournalFull s t none (inl (kind, is_tried, stops)))
 
-pub reserved_cause : (plan : _) (stop : ShareStop) (o : OpenerState) (running : Running) (result : Step) (new : OpenerState) (s t : ShareState) →
-    AfterStop stop o running (Reserve plan) result new → Stops stop s t → HasCause (Runs running (Reserve plan)) result new.work s t
-reserved_cause plan Turn o running result new s t after stops =
-    subst (λ r. HasCause (Runs running (Reserve plan)) r new.work s t) (sym after.0) (stops, ap (λ (n : OpenerState). n.work) after.1)
-reserved_cause plan Failed o running result new s t after stops =
-    subst (λ r. HasCause (Runs running (Reserve plan)) r new.work s t) (sym after.0) stops
-reserved_cause plan Memory o running result new s t after stops = absurd stops
-reserved_cause plan JournalFull o running result new s t after stops = absurd stops
+-- it takes no lock
+module _ (work : Work) (s t : ShareState) where
+  pub takes_same : t.holds ≡ s.holds → TakesTried work s t
+  takes_same same kind none some = let both = sym none ∙ (sym same ∙ some) in absurd cc
+
+  pub takes_none : t.holds ≡ None → TakesTried work s t
+  takes_none free kind none some = let both = sym free ∙ some in absurd cc
+
+pub stopped_takes : (work : Work) (stop : ShareStop) (s t : ShareState) → Stops stop s t → TakesTried work s t
+stopped_takes work Turn s t stops = takes_same work s t stops.after.holds
+stopped_takes work Failed s t stops = takes_none work s t stops.after.holds
+stopped_takes work Memory s t stops = absurd stops
+stopped_takes work JournalFull s t stops = absurd stops
+
+pub tried_takes : (work : Work) (kind : LockKind) (stop : ShareStop) (s t : ShareState) → StopsTrying kind stop s t → TakesTried work s t
+tried_takes work kind Turn s t stops = takes_same work s t stops.after.holds
+tried_takes work kind Failed s t stops = takes_none work s t stops.after.holds
+tried_takes work kind Memory s t stops = takes_same work s t stops.0.after.holds
+tried_takes work kind JournalFull s t stops = takes_same work s t stops.0.after.holds
+
+-- and carries nothing out
+pub stopped_acts : (stop : ShareStop) (o : OpenerState) (running : Running) (stage : Stage) (result : Step) (new : OpenerState) (s t : ShareState) → AfterStop stop o running stage result new →
+    ActsAt result stage o.image new.work s t
+stopped_acts Turn o running stage result new s t after = subst (λ r. ActsAt r stage o.image new.work s t) (sym after.0) tt
+stopped_acts Failed o running stage result new s t after = subst (λ r. ActsAt r stage o.image new.work s t) (sym after.0) tt
+stopped_acts Memory o running stage result new s t after = subst (λ r. ActsAt r stage o.image new.work s t) (sym after.0) tt
+stopped_acts JournalFull o running stage result new s t after = subst (λ r. ActsAt r stage o.image new.work s t) (sym after.0) tt
+
+-- what waits keeps its image, and what stops keeps none
+pub stopped_image : (stop : ShareStop) (o : OpenerState) (running : Running) (stage : Stage) (result : Step) (new : OpenerState) (t : ShareState) → AfterStop stop o running stage result new →
+    KeepsImage result stage o.image new t
+stopped_image Turn o running stage result new t after = subst (λ r. KeepsImage r stage o.image new t) (sym after.0) (ap (λ (n : OpenerState). n.image) after.1)
+stopped_image Failed o running stage result new t after = subst (λ r. KeepsImage r stage o.image new t) (sym after.0) after.4
+stopped_image Memory o running stage result new t after = subst (λ r. KeepsImage r stage o.image new t) (sym after.0) after.1.3
+stopped_image JournalFull o running stage result new t after = subst (λ r. KeepsImage r stage o.image new t) (sym after.0) after.1.3

@@ -21,7 +21,7 @@ use Rattle.opener.specs.Continues.{SameCall}
 use Rattle.opener.specs.Ends.{lock_by}
 use Rattle.opener.specs.Opener.{Tied, running_as}
 use Rattle.opener.specs.Plans.{CanWrite, IsSoundImage, IsSoundStanding, events_in}
-use Rattle.opener.specs.Writes.{IsOwn, Follows, IsSoundPlan, IsRowOf, HasStanding, Leads, PlanLeads, HasMadeSoFar, OwesPlan, commits_of, commits_in, first_events}
+use Rattle.opener.specs.Writes.{IsOwn, Follows, IsSoundPlan, IsRowOf, HasStanding, Leads, PlanLeads, HasMadeSoFar, OwesPlan, commits_of, commits_in, first_events, making_of}
 use Rattle.opener.specs.declared.plan.Plan.{Plan}
 use Rattle.opener.specs.declared.plan.Plan.TheVariants.{Append, Rewrite}
 use Rattle.opener.specs.declared.work.Running.{Running}
@@ -30,11 +30,7 @@ use Rattle.opener.proofs.Carry.{tied_after, image_later, more_changes}
 use Rattle.opener.proofs.Same.{SameLock}
 use Rattle.opener.proofs.Stopped.{nothing_told}
 
--- what is made first of a plan, and the plan with this in its place
-abbrev pub making_of : Plan → Making
-making_of (Append a map) = a
-making_of (Rewrite r next map) = r
-
+-- a plan with this in place of what is made first
 abbrev pub with_making : Plan → Making → Plan
 with_making (Append a map) b = Append b map
 with_making (Rewrite r next map) b = Rewrite b next map
@@ -87,11 +83,11 @@ module _ (who : ℕ) (running next : Running) (same : SameCall running next) (b 
     left,
   )
 
-  places_on : (plan : Plan) → first_events plan ≡ first ∷ b.events → events_in plan ≡ events_in (with_making plan b) + 1
+  pub places_on : (plan : Plan) → first_events plan ≡ first ∷ b.events → events_in plan ≡ events_in (with_making plan b) + 1
   places_on (Append a map) is = omega (arith, ap length is)
   places_on (Rewrite r then map) is = omega (arith, ap length is)
 
-  commits_on : (plan : Plan) → first_events plan ≡ first ∷ b.events → commits_in plan ≡ change_of first ++ commits_in (with_making plan b)
+  pub commits_on : (plan : Plan) → first_events plan ≡ first ∷ b.events → commits_in plan ≡ change_of first ++ commits_in (with_making plan b)
   commits_on (Append a map) is = ap commits_of is
   commits_on (Rewrite r None map) is = ap commits_of is
   commits_on (Rewrite r (Some a) map) is = ap (λ l. commits_of l ++ commits_of a.events) is ∙ append_assoc (change_of first) (commits_of b.events) (commits_of a.events)

@@ -9,11 +9,10 @@ use Rattle.region_words.specs.declared.event.What.TheVariants.{Grow}
 use Rattle.loader.specs.FirstWords.{size_in}
 use Rattle.loader.specs.Loads.{loads_of}
 use Rattle.opener.specs.Plans.{events_in}
-use Rattle.opener.specs.Writes.{first_events}
+use Rattle.opener.specs.Writes.{first_events, making_of}
 use Rattle.opener.specs.declared.calls.Step.{Step}
 use Rattle.opener.specs.declared.calls.Step.TheVariants as step
 use Rattle.opener.specs.declared.plan.Plan.{Plan}
-use Rattle.opener.specs.declared.plan.Plan.TheVariants.{Append, Rewrite}
 use Rattle.opener.specs.declared.work.Stage.{Stage}
 use Rattle.opener.specs.declared.work.Stage.TheVariants.{PeekChecksum, PeekSequence, LockShared, LockExclusive, Load, Size, Reserve, Store, Unlock, Hold, Release}
 use Rattle.opener.specs.declared.work.Work.{Work}
@@ -29,8 +28,7 @@ next_growth plan = grown_by (first_events plan)
 
 -- the size of the data file that a plan leaves, from what is known of the image
 abbrev pub size_left : Plan → ℕ
-size_left (Append k map) = k.standing.file_size
-size_left (Rewrite k next map) = k.standing.file_size
+size_left plan = (making_of plan).standing.file_size
 
 -- the size of the data file that a plan was made for, 0 where it is to be grown first
 abbrev pub size_planned : Plan → ℕ

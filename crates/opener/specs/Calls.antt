@@ -1,14 +1,18 @@
 -- Calls, what they ask of an opener, and how they stop.
-use Rattle.std.specs.Prelude.{◌≡◌, ℕ, ◌+◌, ◌-◌, Bool, true, false, None, ⊤}
+use Rattle.std.specs.Prelude.{◌≡◌, ℕ, ◌+◌, ◌-◌, Bool, true, false, Option, Some, None, ⊤}
 use Rattle.region_words.specs.declared.stops.ShareStop.{ShareStop}
 use Rattle.region_words.specs.declared.stops.ShareStop.TheVariants as stop
 use Rattle.change_log.specs.declared.call.Call.{Call}
 use Rattle.change_log.specs.declared.call.Call.TheVariants as call
+use Rattle.lock_rules.specs.declared.table.LockKind.{LockKind}
+use Rattle.lock_rules.specs.declared.table.LockKind.TheVariants.{Shared, Exclusive}
 use Rattle.opener.specs.declared.calls.Step.{Step}
 use Rattle.opener.specs.declared.calls.Step.TheVariants as step
 use Rattle.opener.specs.declared.calls.Stop.TheVariants as why
 use Rattle.opener.specs.declared.work.Running.{Running}
 use Rattle.opener.specs.declared.work.Stage.{Stage}
+use Rattle.opener.specs.declared.work.Stage.TheVariants.{LockShared, LockExclusive, Hold}
+use Rattle.opener.specs.declared.work.Work.{Work}
 use Rattle.opener.specs.declared.work.Work.TheVariants.{Idle, Ended, Runs}
 use Rattle.opener.specs.State.{OpenerState}
 use Rattle.opener.specs.Plans.{CanWrite}
@@ -51,3 +55,24 @@ abbrev pub holds_after : Call → ℕ → ℕ
 holds_after call.Hold holds = holds + 1
 holds_after call.Release holds = holds - 1
 holds_after _ holds = holds
+
+-- the kind of lock that a call takes for itself: shared to read, exclusive to write and to hold
+abbrev pub kind_of : Call → Option LockKind
+kind_of (call.Get key) = Some Shared
+kind_of call.Keys = Some Shared
+kind_of call.Count = Some Shared
+kind_of call.Sync = Some Shared
+kind_of call.Release = None
+kind_of asked = Some Exclusive
+
+-- the kind that a step of a call at this stage tries
+abbrev pub kind_tried : Call → Stage → Option LockKind
+kind_tried asked LockShared = kind_of asked
+kind_tried asked LockExclusive = kind_of asked
+kind_tried asked Hold = kind_of asked
+kind_tried asked _ = None
+
+-- an opener at this work tries this kind
+abbrev pub IsTried : Work → LockKind → Type 0
+IsTried (Runs running stage) kind = kind_tried running.call stage ≡ Some kind
+IsTried _ kind = ⊥

@@ -13,3 +13,4 @@ pub mod Settles
 pub mod Quiet
 pub mod Quick
 pub mod Lent
+pub mod Steps

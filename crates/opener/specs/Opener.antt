@@ -1,5 +1,5 @@
 -- An opener and the share that it uses.
-use Rattle.std.specs.Prelude.{◌≡◌, ◌≢◌, ℕ, ◌<◌, ◌≤◌, ◌⊎◌, Bool, true, false, not, List, ◌++◌, length, take, slice_get, Option, Some, None, IfSome, Err, ⊤}
+use Rattle.std.specs.Prelude.{◌≡◌, ◌≢◌, ℕ, ◌+◌, ◌<◌, ◌≤◌, ◌⊎◌, Bool, true, false, not, List, ◌++◌, length, take, slice_get, Option, Some, None, IfSome, Err, ⊤}
 use Rattle.change_log.specs.Acts.{act_of, replay}
 use Rattle.change_log.specs.History.{reply_in, IsMade}
 use Rattle.change_log.specs.Settled.{AreOfCall}
@@ -19,7 +19,7 @@ use Rattle.region_words.specs.Apart.{Apart}
 use Rattle.region_words.specs.Lawful.{Between, Reaches, map_after}
 use Rattle.region_words.specs.Outcome.{AtRest}
 use Rattle.region_words.specs.Rows.{standing}
-use Rattle.region_words.specs.Images.{IsKept, checksum_at}
+use Rattle.region_words.specs.Images.{IsKept, checksum_at, sequence_at}
 use Rattle.region_words.specs.Standings.{IsStandingOf}
 use Rattle.region_words.specs.Told.{History, OnTold}
 use Rattle.region_words.specs.Share.{ShareState, Agrees, After, Left, Fails, IsTurnedAway, Tries, StopsTrying, StopsReserving}
@@ -28,7 +28,7 @@ use Rattle.region_words.specs.declared.stops.Peek.{Peek}
 use Rattle.region_words.specs.declared.stops.ShareStop.TheVariants as stop
 use Rattle.loader.specs.Loads.{HasLoaded, is_done}
 use Rattle.loader.specs.declared.loaded.Image.{Image}
-use Rattle.opener.specs.Calls.{IsPlain, holds_after, is_write}
+use Rattle.opener.specs.Calls.{IsPlain, IsTried, holds_after, is_write}
 use Rattle.opener.specs.Continues.{SameCall}
 use Rattle.opener.specs.Ends.{OnImage, lock_by}
 use Rattle.opener.specs.Plans.{CanWrite, IsPlanOf, IsSoundImage, events_in, refusal_of}
@@ -91,10 +91,14 @@ Suits asked _ = IsPlain asked
 abbrev pub LooksUnder : Running → Option LockKind → Type 0
 LooksUnder running lock = is_write running.call ≡ true → lock ≡ Some Exclusive
 
+-- another call has taken no lock itself where it does
+abbrev pub LooksFree : Running → Type 0
+LooksFree running = is_write running.call ≡ false → running.taken ≡ None
+
 -- what a stage wants of the opener, whatever the share tells
 abbrev pub IsAtStage : OpenerState → Running → Stage → Type 0
-IsAtStage o running PeekChecksum = (o.image ≢ None) × LooksUnder running (lock_by o.holds running.taken)
-IsAtStage o running (PeekSequence peek) = (o.image ≢ None) × LooksUnder running (lock_by o.holds running.taken)
+IsAtStage o running PeekChecksum = (o.image ≢ None) × LooksUnder running (lock_by o.holds running.taken) × LooksFree running
+IsAtStage o running (PeekSequence peek) = (o.image ≢ None) × LooksUnder running (lock_by o.holds running.taken) × LooksFree running
 IsAtStage o running LockShared = (o.holds ≡ 0) × (running.taken ≡ None)
 IsAtStage o running LockExclusive = (o.holds ≡ 0) × (running.taken ≡ None)
 IsAtStage o running (Load loading) =
@@ -172,6 +176,27 @@ EndIs who (end.Answer place reply) running start past =
     (running.begun ≤ place) × (place ≤ length (changes_of past)) × ReplyIs running.call running.now reply place start past × ChangeIs who running place past
 EndIs who (end.Stop why) running start past = ⊤
 
+-- a write's change is the last of so many; the place of another call is their number
+abbrev pub IsLastPlace : Bool → ℕ → ℕ → Type 0
+IsLastPlace true place ended = place + 1 ≡ ended
+IsLastPlace false place ended = place ≡ ended
+
+-- the image that is kept has the checksum and the sequence of the region
+abbrev pub MatchesRegion : Option Image → Region → List Event → Type 0
+MatchesRegion None start past = ⊥
+MatchesRegion (Some i) start past = (i.standing.checksum ≡ checksum_at start past) × (i.standing.sequence ≡ sequence_at start past)
+
+-- so it has after a load, and after a write where checksums tell payloads apart
+abbrev pub KeepsWords : Bool → Option Image → Region → List Event → Type 0
+KeepsWords true image start past = IsAccepted start → Apart start past → MatchesRegion image start past
+KeepsWords false image start past = MatchesRegion image start past
+
+-- the region is still as the answer to come found it or left it
+abbrev pub EndsNow : Option Image → End → Running → Region → List Event → Type 0
+EndsNow image (end.Answer place reply) running start past =
+    IsLastPlace (is_write running.call) place (length (changes_of past)) × KeepsWords (is_write running.call) image start past
+EndsNow image (end.Stop why) running start past = ⊤
+
 -- the image that the region shows, with the map of the history
 abbrev pub image_at : Region → List Event → Image
 image_at start past = record { standing = standing (region_after start past); map = map_after start past }
@@ -188,7 +213,7 @@ StageIs o running (Load loading) start past = HasLoaded loading (region_after st
 StageIs o running Size start past = OnImage o.image (λ i. IsAccepted start → Apart start past → IsShown i start past)
 StageIs o running (Reserve plan) start past = PlanStarts o.who running plan start past × PlanLeads plan start past × PlanIs o.who running plan start past
 StageIs o running (Store plan) start past = PlanLeads plan start past × HasMadeSoFar o.who running plan past
-StageIs o running (Unlock how) start past = EndIs o.who how running start past
+StageIs o running (Unlock how) start past = EndIs o.who how running start past × EndsNow o.image how running start past
 StageIs o running _ start past = ⊤
 
 abbrev pub WorkIs : OpenerState → Work → Region → List Event → Type 0
@@ -291,7 +316,7 @@ HasNoPlaces _ s t = ⊥
 abbrev pub HasReason : Work → Stop → ShareState → ShareState → Type 0
 HasReason old Fault s t = Fails s t
 HasReason old Memory s t = ⊤
-HasReason old JournalFull s t = ((kind : LockKind) × StopsTrying kind stop.JournalFull s t) ⊎ HasNoPlaces old s t
+HasReason old JournalFull s t = ((kind : LockKind) × IsTried old kind × StopsTrying kind stop.JournalFull s t) ⊎ HasNoPlaces old s t
 HasReason (Runs running stage) why s t = OnTold t.told (λ h. StopIs running why h.start h.past)
 HasReason _ why s t = ⊥
 
@@ -305,6 +330,6 @@ abbrev pub HasCause : Work → Step → Work → ShareState → ShareState → T
 HasCause old step.Idle new s t = t ≡ s
 HasCause old step.Going new s t = IfSome (stop_found new) (λ why. HasReason old why s t)
 HasCause old step.Again new s t = IsTurnedAway s t × (new ≡ old)
-HasCause old (step.Blocked holder) new s t = (kind : LockKind) × Tries kind (Busy holder) s t
+HasCause old (step.Blocked holder) new s t = (kind : LockKind) × IsTried old kind × Tries kind (Busy holder) s t
 HasCause old (step.Answered a) new s t = ⊤
 HasCause old (step.Stopped why) new s t = HasStopped (stop_found old) old why s t

@@ -56,10 +56,13 @@ IsSoundPlan who running (Rewrite r (Some a) map) =
     (r.events ≢ []) × IsSoundStanding r.standing × (r.standing.checksum < 2 ^ 32) × ((change : Change) × Follows who running r.standing a change)
     × IsSoundImage (image_after a map)
 
--- the first events of a plan that isn't begun
+-- what is made first of a plan
+abbrev pub making_of : Plan → Making
+making_of (Append a map) = a
+making_of (Rewrite r next map) = r
+
 abbrev pub first_events : Plan → List What
-first_events (Append a map) = a.events
-first_events (Rewrite r next map) = r.events
+first_events plan = (making_of plan).events
 
 -- its places and its room can be reserved
 pub record CanReserve (plan : Plan) : Type 0 where

@@ -8,6 +8,7 @@ ghost use Rattle.opener.specs.Opener.{Tied, running_as, HasCause, IsAnswer, Keep
 ghost use Rattle.opener.specs.Bound.{Falls, steps_left};
 ghost use Rattle.opener.specs.Settles.{BeginsSettled, Settles};
 ghost use Rattle.opener.specs.Quiet.{ShowsQuietly};
+ghost use Rattle.opener.specs.Steps.{ActsAt, IsPlaceOf, KeepsImage, OnRunning, Steps, TakesTried, peek_of};
 
 use crate::calls::{NotBegun, Refused, Step, Stop};
 use crate::plan::Plan;
@@ -131,7 +132,11 @@ impl Opener {
         ensures adds { AddsTo self.old.who self.old.work result self.new.work (S.state share.old) (S.state share.new) }
         ensures call { KeepsWork self.old result self.new }
         ensures cause { HasCause self.old.work result self.new.work (S.state share.old) (S.state share.new) }
+        ensures takes { TakesTried self.old.work (S.state share.old) (S.state share.new) }
+        ensures acts { OnRunning self.old.work (λ stage. ActsAt result stage self.old.image self.new.work (S.state share.old) (S.state share.new)) }
         ensures answer { OnAnswer result (λ a. OnTold (S.state share.new).told (λ h. IsAnswer a h.start h.past)) }
+        ensures place { OnRunning self.old.work (λ stage. OnAnswer result (λ a. OnTold (S.state share.new).told (λ h. IsPlaceOf (peek_of stage) a))) }
+        ensures image { OnRunning self.old.work (λ stage. KeepsImage result stage self.old.image self.new (S.state share.new)) }
         ensures falls { Falls self.old.work result self.new.work (S.state share.new) }
         ensures settles { Settles self.old result self.new (S.state share.old) (S.state share.new) }
         ensures quiet { ShowsQuietly self.new.who self.new.work (S.state share.new) }
@@ -168,13 +173,7 @@ impl Opener {
 
     fn go<S: Share>(&mut self, share: &mut S, running: Running, stage: Stage) -> Step
         requires { Tied (running_as self.old running stage) (S.state share.old) }
-        ensures tied { Tied self.new (S.state share.new) }
-        ensures makes { MakesOne (S.state share.old) (S.state share.new) }
-        ensures adds { Adds self.old.who running stage result self.new.work (S.state share.old) (S.state share.new) }
-        ensures call { KeepsCall self.old.who self.old.holds running result self.new }
-        ensures cause { HasCause (Work.Runs running stage) result self.new.work (S.state share.old) (S.state share.new) }
-        ensures answer { OnAnswer result (λ a. OnTold (S.state share.new).told (λ h. IsAnswer a h.start h.past)) }
-        ensures falls { Falls (Work.Runs running stage) result self.new.work (S.state share.new) }
+        ensures { Steps self.old running stage result self.new (S.state share.old) (S.state share.new) }
     {
         match stage {
             Stage::PeekChecksum => self.peek_checksum(share, running),

@@ -15,6 +15,7 @@ use kv_pairs::item_size;
 use loader::Image;
 use region_words::Standing;
 use std::alloc::Global;
+use std::mem;
 use write_back::{RewriteStop, Rewriting};
 
 /// What a write is to store, and the map that it leaves.
@@ -186,8 +187,21 @@ fn append_to(
     ensures { IfOk result (λ p. (p.0 ≡ appending standing.now change) × (p.1 ≡ applied map change.act)) }
 {
     let mut map = map;
-    apply(alloc, &mut map, &change.act)?;
-    Ok((Appending::start(alloc, standing, change)?, map))
+    match apply(alloc, &mut map, &change.act) {
+        Ok(()) => {}
+        Err(memory) => {
+            mem::drop(map);
+            mem::drop(change);
+            return Err(memory);
+        }
+    }
+    match Appending::start(alloc, standing, change) {
+        Ok(appending) => Ok((appending, map)),
+        Err(memory) => {
+            mem::drop(map);
+            Err(memory)
+        }
+    }
 }
 
 // The bytes of a change's item.

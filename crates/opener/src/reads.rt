@@ -7,6 +7,7 @@ ghost use Rattle.opener.specs.declared.work.Work.TheVariants.{Runs};
 ghost use Rattle.opener.specs.Adds.{Adds};
 ghost use Rattle.opener.specs.Opener.{Tied, running_as, HasCause, IsAnswer, KeepsCall, OnAnswer, MakesOne};
 ghost use Rattle.opener.specs.Bound.{Falls};
+ghost use Rattle.opener.specs.Steps.{Steps};
 
 use crate::calls::{Step, Stop};
 use crate::opener::Opener;
@@ -18,17 +19,12 @@ use lock_rules::{LockKind, Tried};
 use meta_record::{RecordFault, Shown};
 use region_words::{Peek, Share, ShareStop};
 use std::alloc::Global;
+use std::mem;
 
 impl Opener {
     pub(crate) fn peek_checksum<S: Share>(&mut self, share: &mut S, running: Running) -> Step
         requires { Tied (running_as self.old running Stage.PeekChecksum) (S.state share.old) }
-        ensures tied { Tied self.new (S.state share.new) }
-        ensures makes { MakesOne (S.state share.old) (S.state share.new) }
-        ensures adds { Adds self.old.who running Stage.PeekChecksum result self.new.work (S.state share.old) (S.state share.new) }
-        ensures call { KeepsCall self.old.who self.old.holds running result self.new }
-        ensures cause { HasCause (Runs running Stage.PeekChecksum) result self.new.work (S.state share.old) (S.state share.new) }
-        ensures answer { OnAnswer result (λ a. OnTold (S.state share.new).told (λ h. IsAnswer a h.start h.past)) }
-        ensures falls { Falls (Runs running Stage.PeekChecksum) result self.new.work (S.state share.new) }
+        ensures { Steps self.old running Stage.PeekChecksum result self.new (S.state share.old) (S.state share.new) }
     {
         match share.peek_checksum() {
             Ok(peek) => self.going(running.with_load(), Stage::PeekSequence(peek)),
@@ -43,13 +39,7 @@ impl Opener {
         peek: Peek,
     ) -> Step
         requires { Tied (running_as self.old running (Stage.PeekSequence peek)) (S.state share.old) }
-        ensures tied { Tied self.new (S.state share.new) }
-        ensures makes { MakesOne (S.state share.old) (S.state share.new) }
-        ensures adds { Adds self.old.who running (Stage.PeekSequence peek) result self.new.work (S.state share.old) (S.state share.new) }
-        ensures call { KeepsCall self.old.who self.old.holds running result self.new }
-        ensures cause { HasCause (Runs running (Stage.PeekSequence peek)) result self.new.work (S.state share.old) (S.state share.new) }
-        ensures answer { OnAnswer result (λ a. OnTold (S.state share.new).told (λ h. IsAnswer a h.start h.past)) }
-        ensures falls { Falls (Runs running (Stage.PeekSequence peek)) result self.new.work (S.state share.new) }
+        ensures { Steps self.old running (Stage.PeekSequence peek) result self.new (S.state share.old) (S.state share.new) }
     {
         match share.peek_sequence() {
             Ok(sequence) => {
@@ -65,13 +55,7 @@ impl Opener {
 
     pub(crate) fn lock_shared<S: Share>(&mut self, share: &mut S, running: Running) -> Step
         requires { Tied (running_as self.old running Stage.LockShared) (S.state share.old) }
-        ensures tied { Tied self.new (S.state share.new) }
-        ensures makes { MakesOne (S.state share.old) (S.state share.new) }
-        ensures adds { Adds self.old.who running Stage.LockShared result self.new.work (S.state share.old) (S.state share.new) }
-        ensures call { KeepsCall self.old.who self.old.holds running result self.new }
-        ensures cause { HasCause (Runs running Stage.LockShared) result self.new.work (S.state share.old) (S.state share.new) }
-        ensures answer { OnAnswer result (λ a. OnTold (S.state share.new).told (λ h. IsAnswer a h.start h.past)) }
-        ensures falls { Falls (Runs running Stage.LockShared) result self.new.work (S.state share.new) }
+        ensures { Steps self.old running Stage.LockShared result self.new (S.state share.old) (S.state share.new) }
     {
         match share.try_lock(LockKind::Shared) {
             Ok(Tried::Taken) => {
@@ -90,13 +74,7 @@ impl Opener {
         loading: Loading,
     ) -> Step
         requires { Tied (running_as self.old running (Stage.Load loading)) (S.state share.old) }
-        ensures tied { Tied self.new (S.state share.new) }
-        ensures makes { MakesOne (S.state share.old) (S.state share.new) }
-        ensures adds { Adds self.old.who running (Stage.Load loading) result self.new.work (S.state share.old) (S.state share.new) }
-        ensures call { KeepsCall self.old.who self.old.holds running result self.new }
-        ensures cause { HasCause (Runs running (Stage.Load loading)) result self.new.work (S.state share.old) (S.state share.new) }
-        ensures answer { OnAnswer result (λ a. OnTold (S.state share.new).told (λ h. IsAnswer a h.start h.past)) }
-        ensures falls { Falls (Runs running (Stage.Load loading)) result self.new.work (S.state share.new) }
+        ensures { Steps self.old running (Stage.Load loading) result self.new (S.state share.old) (S.state share.new) }
     {
         let mut loading = loading;
         match loading.step(share) {
@@ -106,10 +84,12 @@ impl Opener {
             }
             Err(LoadStop::Share(stop)) => self.stopped(stop, running, Stage::Load(loading)),
             Err(LoadStop::Record(fault)) => {
+                mem::drop(loading);
                 let end = End::Stop(stop_of(fault));
                 self.leave(running.with_load(), end, share.changes())
             }
             Err(LoadStop::Memory) => {
+                mem::drop(loading);
                 let end = End::Stop(Stop::Memory);
                 self.leave(running.with_load(), end, share.changes())
             }
@@ -118,13 +98,7 @@ impl Opener {
 
     pub(crate) fn unlock<S: Share>(&mut self, share: &mut S, running: Running, end: End) -> Step
         requires { Tied (running_as self.old running (Stage.Unlock end)) (S.state share.old) }
-        ensures tied { Tied self.new (S.state share.new) }
-        ensures makes { MakesOne (S.state share.old) (S.state share.new) }
-        ensures adds { Adds self.old.who running (Stage.Unlock end) result self.new.work (S.state share.old) (S.state share.new) }
-        ensures call { KeepsCall self.old.who self.old.holds running result self.new }
-        ensures cause { HasCause (Runs running (Stage.Unlock end)) result self.new.work (S.state share.old) (S.state share.new) }
-        ensures answer { OnAnswer result (λ a. OnTold (S.state share.new).told (λ h. IsAnswer a h.start h.past)) }
-        ensures falls { Falls (Runs running (Stage.Unlock end)) result self.new.work (S.state share.new) }
+        ensures { Steps self.old running (Stage.Unlock end) result self.new (S.state share.old) (S.state share.new) }
     {
         match share.unlock() {
             Ok(()) => self.finish(running, end, share.changes()),
@@ -134,13 +108,7 @@ impl Opener {
 
     pub(crate) fn hold<S: Share>(&mut self, share: &mut S, running: Running) -> Step
         requires { Tied (running_as self.old running Stage.Hold) (S.state share.old) }
-        ensures tied { Tied self.new (S.state share.new) }
-        ensures makes { MakesOne (S.state share.old) (S.state share.new) }
-        ensures adds { Adds self.old.who running Stage.Hold result self.new.work (S.state share.old) (S.state share.new) }
-        ensures call { KeepsCall self.old.who self.old.holds running result self.new }
-        ensures cause { HasCause (Runs running Stage.Hold) result self.new.work (S.state share.old) (S.state share.new) }
-        ensures answer { OnAnswer result (λ a. OnTold (S.state share.new).told (λ h. IsAnswer a h.start h.past)) }
-        ensures falls { Falls (Runs running Stage.Hold) result self.new.work (S.state share.new) }
+        ensures { Steps self.old running Stage.Hold result self.new (S.state share.old) (S.state share.new) }
     {
         if self.holds > 0 {
             let holds = self.holds + 1;
@@ -159,13 +127,7 @@ impl Opener {
 
     pub(crate) fn release<S: Share>(&mut self, share: &mut S, running: Running) -> Step
         requires { Tied (running_as self.old running Stage.Release) (S.state share.old) }
-        ensures tied { Tied self.new (S.state share.new) }
-        ensures makes { MakesOne (S.state share.old) (S.state share.new) }
-        ensures adds { Adds self.old.who running Stage.Release result self.new.work (S.state share.old) (S.state share.new) }
-        ensures call { KeepsCall self.old.who self.old.holds running result self.new }
-        ensures cause { HasCause (Runs running Stage.Release) result self.new.work (S.state share.old) (S.state share.new) }
-        ensures answer { OnAnswer result (λ a. OnTold (S.state share.new).told (λ h. IsAnswer a h.start h.past)) }
-        ensures falls { Falls (Runs running Stage.Release) result self.new.work (S.state share.new) }
+        ensures { Steps self.old running Stage.Release result self.new (S.state share.old) (S.state share.new) }
     {
         if self.holds > 1 {
             let holds = self.holds - 1;
@@ -253,7 +215,10 @@ impl Opener {
                 self.set_work(Work::Idle);
                 Step::Answered(answer_of(self.who, running, place, ended, reply))
             }
-            End::Stop(stop) => self.give_up(stop),
+            End::Stop(stop) => {
+                mem::drop(running);
+                self.give_up(stop)
+            }
         }
     }
 

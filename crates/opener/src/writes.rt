@@ -3,6 +3,7 @@ ghost use Rattle.region_words.specs.Told.{OnTold};
 ghost use Rattle.opener.specs.Adds.{Adds};
 ghost use Rattle.opener.specs.Opener.{Tied, running_as, HasCause, IsAnswer, KeepsCall, OnAnswer, MakesOne};
 ghost use Rattle.opener.specs.Bound.{Falls};
+ghost use Rattle.opener.specs.Steps.{Steps};
 ghost use Rattle.opener.specs.declared.work.Work.TheVariants.{Runs};
 
 use crate::calls::{Step, Stop};
@@ -21,13 +22,7 @@ use write_back::Rewriting;
 impl Opener {
     pub(crate) fn lock_exclusive<S: Share>(&mut self, share: &mut S, running: Running) -> Step
         requires { Tied (running_as self.old running Stage.LockExclusive) (S.state share.old) }
-        ensures tied { Tied self.new (S.state share.new) }
-        ensures makes { MakesOne (S.state share.old) (S.state share.new) }
-        ensures adds { Adds self.old.who running Stage.LockExclusive result self.new.work (S.state share.old) (S.state share.new) }
-        ensures call { KeepsCall self.old.who self.old.holds running result self.new }
-        ensures cause { HasCause (Runs running Stage.LockExclusive) result self.new.work (S.state share.old) (S.state share.new) }
-        ensures answer { OnAnswer result (λ a. OnTold (S.state share.new).told (λ h. IsAnswer a h.start h.past)) }
-        ensures falls { Falls (Runs running Stage.LockExclusive) result self.new.work (S.state share.new) }
+        ensures { Steps self.old running Stage.LockExclusive result self.new (S.state share.old) (S.state share.new) }
     {
         match share.try_lock(LockKind::Exclusive) {
             Ok(Tried::Taken) => {
@@ -43,13 +38,7 @@ impl Opener {
     // The image is current. What is to be stored is worked out from it and from the file's size.
     pub(crate) fn size<S: Share>(&mut self, share: &mut S, running: Running) -> Step
         requires { Tied (running_as self.old running Stage.Size) (S.state share.old) }
-        ensures tied { Tied self.new (S.state share.new) }
-        ensures makes { MakesOne (S.state share.old) (S.state share.new) }
-        ensures adds { Adds self.old.who running Stage.Size result self.new.work (S.state share.old) (S.state share.new) }
-        ensures call { KeepsCall self.old.who self.old.holds running result self.new }
-        ensures cause { HasCause (Runs running Stage.Size) result self.new.work (S.state share.old) (S.state share.new) }
-        ensures answer { OnAnswer result (λ a. OnTold (S.state share.new).told (λ h. IsAnswer a h.start h.past)) }
-        ensures falls { Falls (Runs running Stage.Size) result self.new.work (S.state share.new) }
+        ensures { Steps self.old running Stage.Size result self.new (S.state share.old) (S.state share.new) }
     {
         match share.size() {
             Ok(size) => match self.plan(&running, size) {
@@ -62,13 +51,7 @@ impl Opener {
 
     pub(crate) fn reserve<S: Share>(&mut self, share: &mut S, running: Running, plan: Plan) -> Step
         requires { Tied (running_as self.old running (Stage.Reserve plan)) (S.state share.old) }
-        ensures tied { Tied self.new (S.state share.new) }
-        ensures makes { MakesOne (S.state share.old) (S.state share.new) }
-        ensures adds { Adds self.old.who running (Stage.Reserve plan) result self.new.work (S.state share.old) (S.state share.new) }
-        ensures call { KeepsCall self.old.who self.old.holds running result self.new }
-        ensures cause { HasCause (Runs running (Stage.Reserve plan)) result self.new.work (S.state share.old) (S.state share.new) }
-        ensures answer { OnAnswer result (λ a. OnTold (S.state share.new).told (λ h. IsAnswer a h.start h.past)) }
-        ensures falls { Falls (Runs running (Stage.Reserve plan)) result self.new.work (S.state share.new) }
+        ensures { Steps self.old running (Stage.Reserve plan) result self.new (S.state share.old) (S.state share.new) }
     {
         match share.reserve(plan.events(), plan.room()) {
             Ok(()) => self.going(running, Stage::Store(plan)),
@@ -95,13 +78,7 @@ impl Opener {
         map: ExpiringMap,
     ) -> Step
         requires { Tied (running_as self.old running (Stage.Store (Plan.Rewrite rewriting then map))) (S.state share.old) }
-        ensures tied { Tied self.new (S.state share.new) }
-        ensures makes { MakesOne (S.state share.old) (S.state share.new) }
-        ensures adds { Adds self.old.who running (Stage.Store (Plan.Rewrite rewriting then map)) result self.new.work (S.state share.old) (S.state share.new) }
-        ensures call { KeepsCall self.old.who self.old.holds running result self.new }
-        ensures cause { HasCause (Runs running (Stage.Store (Plan.Rewrite rewriting then map))) result self.new.work (S.state share.old) (S.state share.new) }
-        ensures answer { OnAnswer result (λ a. OnTold (S.state share.new).told (λ h. IsAnswer a h.start h.past)) }
-        ensures falls { Falls (Runs running (Stage.Store (Plan.Rewrite rewriting then map))) result self.new.work (S.state share.new) }
+        ensures { Steps self.old running (Stage.Store (Plan.Rewrite rewriting then map)) result self.new (S.state share.old) (S.state share.new) }
     {
         let mut rewriting = rewriting;
         let event = rewriting.next();
@@ -117,6 +94,7 @@ impl Opener {
             Ok(Stored::Done) => {
                 let running = running.with_event(event);
                 let standing = rewriting.standing();
+                mem::drop(rewriting);
                 self.rewritten(running, standing, then, map, share.changes())
             }
             Err(stop) => {
@@ -138,13 +116,7 @@ impl Opener {
         map: ExpiringMap,
     ) -> Step
         requires { Tied (running_as self.old running (Stage.Store (Plan.Append appending map))) (S.state share.old) }
-        ensures tied { Tied self.new (S.state share.new) }
-        ensures makes { MakesOne (S.state share.old) (S.state share.new) }
-        ensures adds { Adds self.old.who running (Stage.Store (Plan.Append appending map)) result self.new.work (S.state share.old) (S.state share.new) }
-        ensures call { KeepsCall self.old.who self.old.holds running result self.new }
-        ensures cause { HasCause (Runs running (Stage.Store (Plan.Append appending map))) result self.new.work (S.state share.old) (S.state share.new) }
-        ensures answer { OnAnswer result (λ a. OnTold (S.state share.new).told (λ h. IsAnswer a h.start h.past)) }
-        ensures falls { Falls (Runs running (Stage.Store (Plan.Append appending map))) result self.new.work (S.state share.new) }
+        ensures { Steps self.old running (Stage.Store (Plan.Append appending map)) result self.new (S.state share.old) (S.state share.new) }
     {
         let mut appending = appending;
         let event = appending.next();
@@ -158,6 +130,7 @@ impl Opener {
                     standing: appending.standing(),
                     map,
                 };
+                mem::drop(appending);
                 self.written(running.with_event(event), image, share.changes())
             }
             Err(stop) => {

@@ -1,91 +1,40 @@
-use Rattle.std.proofs.Common.{sym, subst}
+use Rattle.std.proofs.Common.{refl, subst}
+use Rattle.std.specs.Prelude.{None}
 use Rattle.opener.specs.State.{OpenerState}
-use Rattle.opener.specs.Ends.{Leaves}
-use Rattle.opener.specs.Opener.{Tied, running_as}
+use Rattle.opener.specs.Ends.{GoesOn, Leaves}
 use Rattle.opener.specs.declared.work.End.TheVariants as end
-use Rattle.opener.specs.declared.work.Stage.TheVariants.{Size, Reserve}
+use Rattle.opener.specs.declared.work.Stage.TheVariants.{Reserve}
+use Rattle.opener.proofs.Falling.{refused_shorter, size_shorter}
 use Rattle.opener.proofs.Same.{loaded_same}
-use Rattle.opener.proofs.Sized.{size_tied, refused_tied, refused_cause}
-use Rattle.opener.proofs.Stopped.{stopped_tied}
-use Rattle.opener.proofs.Added.{stopped_adds}
-use Rattle.opener.proofs.AddsBy.{load_goes, load_leaves}
-use Rattle.opener.specs.declared.work.Work.TheVariants.{Runs}
-use Rattle.opener.proofs.Falling.{going_falls, leaves_falls, refused_shorter, size_shorter, stopped_falls}
+use Rattle.opener.proofs.Sized.{can_plain, refused_ends, refused_leaving, refused_left, refused_reason, size_tied}
+use Rattle.opener.proofs.StepEnds.{loads_leave, loads_on, stops}
 use Rattle.opener.proofs.opener.Opener.size.Goals as goal
 
-pub returns-in-Ok-plan-clause-tied : goal.returns-in-Ok-plan-clause-tied
-returns-in-Ok-plan-clause-tied g c =
-    let s = g.S.Share.state c.args.share.now in
-    let t = g.S.Share.state c.size.new.self in
-    let same = loaded_same c.args.running c.with_load.result c.with_load.ensures in
-    subst (λ (n : OpenerState). Tied n t) (sym c.going.ensures.1)
-    (subst (λ (n : OpenerState). Tied (running_as n c.with_load.result (Reserve c.in-Ok-plan.plan)) t) (sym c.plan.ensures.kept)
-    (size_tied c.args.self.now c.args.running c.with_load.result c.in-Ok.size s t c.requires same.same same.taken c.in-Ok.ensures.ok c.in-Ok.ensures.value c.in-Ok.ensures.pages
-    c.in-Ok-plan.plan c.plan.ensures.words c.in-Ok-plan.ensures.ok))
-
-pub returns-in-Err-plan-clause-tied : goal.returns-in-Err-plan-clause-tied
-returns-in-Err-plan-clause-tied g c =
-    let s = g.S.Share.state c.args.share.now in
-    let t = g.S.Share.state c.size.new.self in
-    let next = c.with_load-in-Err-plan.result in
-    let same = loaded_same c.args.running next c.with_load-in-Err-plan.ensures in
-    let left = subst (λ (n : OpenerState). Leaves next (end.Stop c.in-Err-plan.stop) c.changes.result n c.leave.result c.leave.new.self) c.plan.ensures.kept c.leave.ensures in
-    refused_tied c.args.self.now c.args.running next c.in-Ok.size s t c.requires same.same same.taken c.in-Ok.ensures.ok c.in-Ok.ensures.value c.in-Ok.ensures.pages
-    c.in-Err-plan.stop c.changes.result c.leave.result c.leave.new.self c.in-Err-plan.ensures.err left
-
-pub returns-in-Err-plan-clause-cause : goal.returns-in-Err-plan-clause-cause
-returns-in-Err-plan-clause-cause g c =
-    let s = g.S.Share.state c.args.share.now in
-    let t = g.S.Share.state c.size.new.self in
-    let next = c.with_load-in-Err-plan.result in
-    let same = loaded_same c.args.running next c.with_load-in-Err-plan.ensures in
-    let left = subst (λ (n : OpenerState). Leaves next (end.Stop c.in-Err-plan.stop) c.changes.result n c.leave.result c.leave.new.self) c.plan.ensures.kept c.leave.ensures in
-    refused_cause c.args.self.now c.args.running next c.in-Ok.size s t c.requires same.same same.taken c.in-Ok.ensures.ok c.in-Ok.ensures.value c.in-Ok.ensures.pages
-    c.in-Err-plan.stop c.changes.result c.leave.result c.leave.new.self c.in-Err-plan.ensures.err left c.plan.ensures.words
-
-pub returns-in-Err-clause-tied : goal.returns-in-Err-clause-tied
-returns-in-Err-clause-tied g c =
-    let s = g.S.Share.state c.args.share.now in
-    let t = g.S.Share.state c.size.new.self in
-    stopped_tied c.args.self.now c.args.running Size c.in-Err.stop c.stopped.result c.stopped.new.self s t c.requires c.stopped.ensures c.in-Err.ensures.err
-
-pub returns-in-Ok-plan-clause-adds : goal.returns-in-Ok-plan-clause-adds
-returns-in-Ok-plan-clause-adds g c =
+pub returns-in-Ok-plan : goal.returns-in-Ok-plan
+returns-in-Ok-plan g c =
     let o = c.args.self.now in
-    let s = g.S.Share.state c.args.share.now in
-    let t = g.S.Share.state c.size.new.self in
-    load_goes o.who c.args.running c.with_load.result Size c.plan.new.self c.going.result c.going.new.self s t (λ stored none. none) (Reserve c.in-Ok-plan.plan) c.in-Ok.ensures.ok c.with_load.ensures c.going.ensures (λ so_far are. are)
-
-pub returns-in-Err-plan-clause-adds : goal.returns-in-Err-plan-clause-adds
-returns-in-Err-plan-clause-adds g c =
-    let o = c.args.self.now in
-    let s = g.S.Share.state c.args.share.now in
-    let t = g.S.Share.state c.size.new.self in
-    load_leaves o.who c.args.running c.with_load-in-Err-plan.result Size c.plan.new.self c.leave.result c.leave.new.self s t (λ stored none. none) (end.Stop c.in-Err-plan.stop) c.changes.result c.in-Ok.ensures.ok
-    c.with_load-in-Err-plan.ensures c.leave.ensures (λ so_far are. are)
-
-pub returns-in-Err-clause-adds : goal.returns-in-Err-clause-adds
-returns-in-Err-clause-adds g c =
-    let o = c.args.self.now in
-    stopped_adds o.who o c.args.running Size c.stopped.result c.stopped.new.self (g.S.Share.state c.args.share.now) (g.S.Share.state c.size.new.self) c.in-Err.stop c.stopped.ensures c.in-Err.ensures.err
-
-pub returns-in-Ok-plan-clause-falls : goal.returns-in-Ok-plan-clause-falls
-returns-in-Ok-plan-clause-falls g c =
-    let o = c.args.self.now in
-    let s = g.S.Share.state c.args.share.now in
-    let t = g.S.Share.state c.size.new.self in
-    let plan = c.in-Ok-plan.plan in
     let found = c.in-Ok.ensures in
-    going_falls (Runs c.args.running Size) c.with_load.result (Reserve plan) c.plan.new.self c.going.result c.going.new.self t
-    (size_shorter c.args.running c.with_load.result t o c.in-Ok.size s plan c.requires found.ok found.value found.pages c.in-Ok-plan.ensures.ok) c.going.ensures
+    let same = loaded_same c.args.running _ c.with_load.ensures in
+    let on = subst (λ (n : OpenerState). GoesOn c.with_load.result (Reserve c.in-Ok-plan.plan) n c.going.result c.going.new.self) c.plan.ensures.kept c.going.ensures in
+    loads_on c.requires (λ stored none. none) (record o { image = None }) _ _ refl found.ok c.with_load.ensures tt (λ looks. absurd cc) on refl (λ so_far are. are)
+    (size_tied o _ _ c.in-Ok.size _ _ c.requires same.same same.taken found.ok found.value found.pages _ c.plan.ensures.words c.in-Ok-plan.ensures.ok)
+    (size_shorter _ _ _ o c.in-Ok.size _ _ c.requires found.ok found.value found.pages c.in-Ok-plan.ensures.ok)
 
-pub returns-in-Err-plan-clause-falls : goal.returns-in-Err-plan-clause-falls
-returns-in-Err-plan-clause-falls g c =
-    let t = g.S.Share.state c.size.new.self in
+pub returns-in-Err-plan : goal.returns-in-Err-plan
+returns-in-Err-plan g c =
+    let o = c.args.self.now in
     let next = c.with_load-in-Err-plan.result in
-    let how = end.Stop c.in-Err-plan.stop in
-    leaves_falls c.args.running next Size how c.changes.result c.plan.new.self c.leave.result c.leave.new.self t (refused_shorter c.args.running next t how) c.leave.ensures
+    let stop = c.in-Err-plan.stop in
+    let found = c.in-Ok.ensures in
+    let same = loaded_same c.args.running next c.with_load-in-Err-plan.ensures in
+    let left = subst (λ (n : OpenerState). Leaves next (end.Stop stop) c.changes.result n c.leave.result c.leave.new.self) c.plan.ensures.kept c.leave.ensures in
+    let no = c.in-Err-plan.ensures.err in
+    loads_leave c.requires (λ stored none. none) (record o { image = None }) next (end.Stop stop) c.changes.result
+    (refused_leaving o c.args.running next c.in-Ok.size _ _ c.requires same.same same.taken found.ok found.value found.pages stop no) found.ok c.with_load-in-Err-plan.ensures
+    (can_plain c.args.running.call c.requires.at.1) tt (λ a. tt) left c.changes.ensures refl
+    (refused_ends o c.args.running next c.in-Ok.size _ _ c.requires same.same same.taken found.ok found.value found.pages stop no)
+    (refused_reason o c.args.running next c.in-Ok.size _ _ c.requires same.same same.taken found.ok found.value found.pages stop no c.plan.ensures.words) (λ so_far are. are) (λ looks. absurd cc)
+    (refused_left o c.args.running next c.in-Ok.size _ _ c.requires same.same same.taken found.ok found.value found.pages stop no) (refused_shorter c.args.running next _ (end.Stop stop))
 
-pub returns-in-Err-clause-falls : goal.returns-in-Err-clause-falls
-returns-in-Err-clause-falls g c =
-    stopped_falls c.in-Err.stop c.args.self.now c.args.running Size c.stopped.result c.stopped.new.self (g.S.Share.state c.size.new.self) c.stopped.ensures
+pub returns-in-Err : goal.returns-in-Err
+returns-in-Err g c = stops c.requires c.in-Err.stop c.stopped.ensures c.in-Err.ensures.err

@@ -1,0 +1,131 @@
+-- What a step of a call comes to.
+use Rattle.std.specs.Prelude.{◌≡◌, ℕ, ◌+◌, Bool, true, false, not, List, Option, Some, None, ⊤}
+use Rattle.change_log.specs.declared.call.Answer.{Answer}
+use Rattle.lock_rules.specs.declared.table.LockKind.{LockKind}
+use Rattle.region_words.specs.Images.{sequence_at}
+use Rattle.region_words.specs.Making.{MakesFirst}
+use Rattle.region_words.specs.Share.{ShareState, Goes, reserving}
+use Rattle.region_words.specs.Told.{OnTold}
+use Rattle.region_words.specs.declared.event.What.{What}
+use Rattle.region_words.specs.declared.stops.Peek.{Peek}
+use Rattle.loader.specs.declared.loaded.Image.{Image}
+use Rattle.opener.specs.State.{OpenerState}
+use Rattle.opener.specs.Adds.{Adds}
+use Rattle.opener.specs.Bound.{Falls}
+use Rattle.opener.specs.Calls.{IsTried, is_write}
+use Rattle.opener.specs.Ends.{is_current}
+use Rattle.opener.specs.Opener.{Tied, MakesOne, KeepsCall, KeepsWords, HasCause, OnAnswer, IsAnswer, IsLastPlace}
+use Rattle.opener.specs.Plans.{events_in, room_in}
+use Rattle.opener.specs.Writes.{first_events}
+use Rattle.opener.specs.declared.calls.Step.{Step}
+use Rattle.opener.specs.declared.calls.Step.TheVariants as step
+use Rattle.opener.specs.declared.plan.Plan.{Plan}
+use Rattle.opener.specs.declared.work.Running.{Running}
+use Rattle.opener.specs.declared.work.Stage.{Stage}
+use Rattle.opener.specs.declared.work.Stage.TheVariants as stage
+use Rattle.opener.specs.declared.work.Work.{Work}
+use Rattle.opener.specs.declared.work.Work.TheVariants.{Runs}
+
+-- a lock that was taken is of the kind that is tried at this work
+abbrev pub TakesTried : Work → ShareState → ShareState → Type 0
+TakesTried work s t = (kind : LockKind) → s.holds ≡ None → t.holds ≡ Some kind → IsTried work kind
+
+-- the events that are to come
+abbrev pub events_left : Work → ℕ
+events_left (Runs running (stage.Store plan)) = events_in plan
+events_left _ = 0
+
+-- exactly the events and the growth of a plan were reserved, and it is to be stored next; or nothing was, and the call leaves
+abbrev pub ReservesPlan : Plan → Work → ShareState → ShareState → Type 0
+ReservesPlan plan (Runs running (stage.Store next)) s t = (next ≡ plan) × Goes (reserving (events_in plan) (room_in plan) s) s t
+ReservesPlan plan (Runs running (stage.Unlock how)) s t = ⊤
+ReservesPlan plan _ s t = ⊥
+
+-- the first event of a plan was made, and so many are left
+abbrev pub StoresFirst : Plan → ℕ → ShareState → ShareState → Type 0
+StoresFirst plan left s t = (rest : List What) × MakesFirst (first_events plan) rest s t × (events_in plan ≡ left + 1)
+
+-- a load of the region is next, or a lock for it
+abbrev pub loads_next : Work → Bool
+loads_next (Runs running stage.LockShared) = true
+loads_next (Runs running (stage.Load loading)) = true
+loads_next _ = false
+
+-- both peeks gave the words of the image that is kept, or not
+abbrev pub FindsCurrent : Bool → Peek → Option Image → ShareState → Type 0
+FindsCurrent found peek image t = OnTold t.told (λ h. is_current image peek (sequence_at h.start h.past) ≡ found)
+
+-- What a step that goes on, or is answered, did at its stage: the region is loaded just where a look found other words, the share is
+-- asked for exactly what a plan takes, and its events are made one by one.
+abbrev pub ActsAt : Step → Stage → Option Image → Work → ShareState → ShareState → Type 0
+ActsAt step.Going (stage.PeekSequence peek) image new s t = FindsCurrent (not (loads_next new)) peek image t
+ActsAt (step.Answered a) (stage.PeekSequence peek) image new s t = FindsCurrent true peek image t
+ActsAt step.Going (stage.Reserve plan) image new s t = ReservesPlan plan new s t
+ActsAt step.Going (stage.Store plan) image new s t = StoresFirst plan (events_left new) s t
+ActsAt (step.Answered a) (stage.Store plan) image new s t = StoresFirst plan 0 s t
+ActsAt _ _ image new s t = ⊤
+
+-- this holds of the stage at which a call runs
+abbrev pub OnRunning : Work → (Stage → Type 0) → Type 0
+OnRunning (Runs running at) P = P at
+OnRunning _ P = ⊤
+
+-- the first peek of a stage that makes the second
+abbrev pub peek_of : Stage → Option Peek
+peek_of (stage.PeekSequence peek) = Some peek
+peek_of _ = None
+
+-- Where two peeks were the words that are kept, the place of the answer is that of the first. Else a write's is that of its change, the
+-- last so far, and that of any other call is its end.
+abbrev pub IsPlaceOf : Option Peek → Answer → Type 0
+IsPlaceOf (Some peek) a = a.place ≡ peek.changes
+IsPlaceOf None a = IsLastPlace (is_write a.call) a.place a.ended
+
+-- up to this stage a call has loaded no whole region, and changed nothing
+abbrev pub still_looks : Stage → Bool
+still_looks stage.PeekChecksum = true
+still_looks (stage.PeekSequence peek) = true
+still_looks stage.LockShared = true
+still_looks stage.LockExclusive = true
+still_looks (stage.Load loading) = true
+still_looks stage.Hold = true
+still_looks stage.Release = true
+still_looks _ = false
+
+-- an answer that is given at this stage needs no load of the region
+abbrev pub answers_by_look : Stage → Bool
+answers_by_look (stage.PeekSequence peek) = true
+answers_by_look stage.Hold = true
+answers_by_look stage.Release = true
+answers_by_look _ = false
+
+-- a call that still looks has kept the image so far
+abbrev pub IsStillKept : Stage → Option Image → Work → Option Image → Type 0
+IsStillKept at old (Runs running next) new = still_looks next ≡ true → (still_looks at ≡ true) × (new ≡ old)
+IsStillKept at old _ new = ⊤
+
+-- the image is kept as it was, or is that of the region
+abbrev pub IsKeptBy : Bool → Bool → Option Image → Option Image → ShareState → Type 0
+IsKeptBy true write old new t = new ≡ old
+IsKeptBy false write old new t = OnTold t.told (λ h. KeepsWords write new h.start h.past)
+
+-- the image that a step leaves: none after a stop, that of the region after an answer with a load or a change, and else the old one
+abbrev pub KeepsImage : Step → Stage → Option Image → OpenerState → ShareState → Type 0
+KeepsImage step.Going at old new t = IsStillKept at old new.work new.image
+KeepsImage (step.Answered a) at old new t = IsKeptBy (answers_by_look at) (is_write a.call) old new.image t
+KeepsImage (step.Stopped why) at old new t = new.image ≡ None
+KeepsImage _ at old new t = new.image ≡ old
+
+-- a call that ran at this stage of the opener made one step, with this result
+pub record Steps (o : OpenerState) (running : Running) (at : Stage) (result : Step) (new : OpenerState) (s t : ShareState) : Type 0 where
+  pub tied : Tied new t
+  pub makes : MakesOne s t
+  pub adds : Adds o.who running at result new.work s t
+  pub call : KeepsCall o.who o.holds running result new
+  pub cause : HasCause (Runs running at) result new.work s t
+  pub takes : TakesTried (Runs running at) s t
+  pub acts : ActsAt result at o.image new.work s t
+  pub answer : OnAnswer result (λ a. OnTold t.told (λ h. IsAnswer a h.start h.past))
+  pub place : OnAnswer result (λ a. OnTold t.told (λ h. IsPlaceOf (peek_of at) a))
+  pub image : KeepsImage result at o.image new t
+  pub falls : Falls (Runs running at) result new.work t
