@@ -96,10 +96,15 @@ def tell(work, now, before=None):
     """A row: the times of the processor, how many times the plain program's ours is, the same by the clock, the peaks of memory, and how
     many times as long as the row before ours takes, beside how many times as long the plain program does."""
     ours, plain = now
-    cells = [work, milliseconds(ours), milliseconds(plain), f'{ours.processor / plain.processor:.1f}', f'{ours.wall / plain.wall:.1f}']
+    cells = [work, milliseconds(ours), milliseconds(plain), ratio(ours.processor, plain.processor), ratio(ours.wall, plain.wall)]
     cells += [f'{took.peak / 1e6:.1f}' for took in now]
     cells += [f'{grown(ours, before.ours):.1f} beside {grown(plain, before.plain):.1f}' if before else '']
     print('| ' + ' | '.join(cells) + ' |', flush=True)
+
+
+def ratio(ours, plain):
+    """Nothing where other work on the machine leaves no difference to look at."""
+    return f'{ours / plain:.1f}' if ours > 0 and plain > 0 else ''
 
 
 def milliseconds(took):

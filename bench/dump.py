@@ -51,7 +51,7 @@ def main():
         for count, runs in counts:
             payload = store(both.folder, 's', count)
             now = both.beside(*words, runs).less(bare)
-            tell(f'dump of {count:,} pairs, a payload of {payload / 1e6:.1f} MB', now, before)
+            tell(f'dump of {count:,} pairs in {payload:,} bytes', now, before)
             before = now
         tell('dump of a store without pairs', bare)
 

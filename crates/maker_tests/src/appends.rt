@@ -1,5 +1,5 @@
 // An append, store by store, alone and at a region in memory.
-ghost use Rattle.std.specs.Prelude.{◌≡◌, [], ◌∷◌, None, false, codes, IfOk, IfSome, OnOk};
+ghost use Rattle.std.specs.Prelude.{◌≡◌, ◌∷◌, codes, IfOk, IfSome, OnOk};
 ghost use Rattle.change_log.specs.declared.change.Act.TheVariants.{Put};
 ghost use Rattle.region_words.specs.Rows.{Row};
 ghost use Rattle.region_words.specs.Owing.{IsOwing};

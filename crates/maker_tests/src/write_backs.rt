@@ -1,5 +1,5 @@
 // A write-back, event by event, alone and at a region in memory.
-ghost use Rattle.std.specs.Prelude.{◌≡◌, ◌≤◌, ◌^◌, [], None, false, length, IfOk, IfSome, OnOk};
+ghost use Rattle.std.specs.Prelude.{◌≡◌, ◌≤◌, ◌^◌, length, IfOk, IfSome, OnOk};
 ghost use Rattle.std.specs.FinMap as fin;
 ghost use Rattle.kv_pairs.specs.Growth.{IsFileSize};
 ghost use Rattle.change_log.specs.declared.change.Act.TheVariants.{Pack};

@@ -2,9 +2,8 @@
 #![tactic(auto)]
 
 #[cfg(test)]
+mod calls;
+#[cfg(test)]
 mod quick;
 #[cfg(test)]
-mod reads;
-mod silent;
-#[cfg(test)]
-mod writes;
+mod stops;

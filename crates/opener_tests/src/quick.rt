@@ -1,12 +1,12 @@
 // Quick reads of an opener, over a region in memory and over a share that tells nothing.
 ghost use Rattle.opener.specs.Opener.{Tied};
 
-use crate::reads::{BODY, META, ask, get, opener_of, seat_at, stopped};
-use crate::silent::Silent;
+use crate::calls::{End, ask, get, opener_of, seat_at};
 use opener::{Opener, Quick, Stop};
 use region_words::Share;
 use std::alloc::Global;
 use std::mem;
+use test_support::{BODY, META, Silent};
 
 // Whether a quick read finds the value that is wanted, or why it isn't answered. None where a call runs or the opener has ended.
 type Look = Option<Result<bool, Quick>>;
@@ -29,7 +29,7 @@ fn finds<S: Share>(opener: &mut Opener, share: &mut S, key: &[u8], want: Option<
 #[derive(Drop)]
 struct Looks {
     before: Look,
-    stop: Option<Stop>,
+    end: End,
     found: Look,
     absent: Look,
     ended: bool,
@@ -41,14 +41,14 @@ fn looks_of(alloc: Global, fails: &[u64]) -> Option<Looks> {
     let mut seat = seat_at(alloc, &BODY, &META, fails)?;
     let mut opener = opener_of(alloc, &seat)?;
     let before = finds(&mut opener, &mut seat, b"k", None);
-    let step = ask(&mut opener, &mut seat, get(alloc).ok()?, 100);
+    let end = ask(&mut opener, &mut seat, get(alloc).ok()?);
     let found = finds(&mut opener, &mut seat, b"k", Some(b"\x03abc"));
     let absent = finds(&mut opener, &mut seat, b"a", None);
     let ended = opener.is_ended();
     mem::drop(opener);
     Some(Looks {
         before,
-        stop: stopped(step.as_ref()),
+        end,
         found,
         absent,
         ended,
@@ -63,8 +63,7 @@ fn look_after_a_get(alloc: Global, checksum: u32, sequence: u32) -> Look {
         [0x3a65_95d3, 3, 1, 0, 0, 0, 0, 11, 4, 0x4c99_85d1],
     );
     let mut opener = opener_of(alloc, &share)?;
-    let step = ask(&mut opener, &mut share, get(alloc).ok()?, 100);
-    mem::drop(step);
+    ask(&mut opener, &mut share, get(alloc).ok()?);
     share.change(checksum, sequence);
     let look = finds(&mut opener, &mut share, b"k", Some(b"\x03abc"));
     mem::drop(opener);
@@ -88,7 +87,7 @@ fn where_either_word_is_another_a_quick_read_is_stale(rt: HostRuntime) {
 fn without_an_image_a_quick_read_is_cold_and_loads_nothing(rt: HostRuntime) {
     let looks = looks_of(rt.alloc(), &[0]).expect(&rt, "ample memory");
     assert_eq!(rt; looks.before, Some(Err(Quick::Cold)));
-    assert_eq!(rt; looks.stop, Some(Stop::Fault));
+    assert_eq!(rt; looks.end, End::Stopped(Stop::Fault));
 }
 
 #[test]

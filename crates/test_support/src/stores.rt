@@ -1,5 +1,4 @@
-// A store of one pair, and what a test looks at.
-use change_log::{Answer, Reply};
+// A store of one pair, and the sizes of any.
 use region_words::LocalRegion;
 
 /// The data file of a store with the pair k, abc, without the zeros behind its payload.
@@ -14,13 +13,5 @@ pub fn sizes(region: &LocalRegion) -> Option<(u32, usize)> {
     match region.data_bytes() {
         [a, b, c, d, rest @ ..] => Some((u32::from_le_bytes([*a, *b, *c, *d]), 4 + rest.len())),
         _ => None,
-    }
-}
-
-/// Whether the reply is this value.
-pub fn is_value(answer: &Answer, want: &[u8]) -> bool {
-    match &answer.reply {
-        Reply::Value(bytes) => bytes.as_slice() == want,
-        _ => false,
     }
 }

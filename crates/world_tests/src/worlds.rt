@@ -2,18 +2,13 @@
 ghost use Rattle.std.specs.Prelude.{IfOk};
 ghost use Rattle.opener.specs.Calls.{IsBuilt};
 
-use change_log::{Answer, Call, Reply};
+use change_log::Call;
 use expiring_map::{Bytes, Memory};
 use handlers::{Handler, Steady, Strategy};
 use region_words::{LocalRegion, shown};
 use std::alloc::{AllocError, Global};
+use test_support::{BODY, META, sizes};
 use world::{Moved, World};
-
-// A store with the pair k, abc: its data and its meta file. The checksums are those of zlib.
-const BODY: [u8; 15] = *b"\x0b\0\0\0\xff\xff\xff\x07\x01k\x04\x03abc";
-
-const META: [u8; 40] =
-    *b"\xd3\x95\x65\x3a\x03\0\0\0\x01\0\0\0\0\0\0\0\0\0\0\0\0\0\0\0\0\0\0\0\x0b\0\0\0\x04\0\0\0\xd1\x85\x99\x4c";
 
 // More steps than a call on a small store has.
 const MOST_STEPS: u32 = 8000;
@@ -93,30 +88,9 @@ pub(crate) fn numbers(world: &World, place: usize) -> Option<(u32, u32, u32, u32
     ))
 }
 
-pub(crate) fn is_value(world: &World, place: usize, want: &[u8]) -> bool {
-    match world.answers().get(place) {
-        Some(answer) => is_value_of(answer, want),
-        None => false,
-    }
-}
-
-fn is_value_of(answer: &Answer, want: &[u8]) -> bool {
-    match &answer.reply {
-        Reply::Value(bytes) => bytes.as_slice() == want,
-        _ => false,
-    }
-}
-
 // The header, which is the payload's size, the number of changes, and the bytes of the data file.
-pub(crate) fn sizes(alloc: Global, world: &World) -> Option<(u32, usize, usize)> {
-    let region = world.region();
-    let changes = region.changes(alloc).ok()?;
-    match region.data_bytes() {
-        [a, b, c, d, rest @ ..] => Some((
-            u32::from_le_bytes([*a, *b, *c, *d]),
-            changes.as_slice().len(),
-            4 + rest.len(),
-        )),
-        _ => None,
-    }
+pub(crate) fn sizes_of(alloc: Global, world: &World) -> Option<(u32, usize, usize)> {
+    let (header, size) = sizes(world.region())?;
+    let changes = world.region().changes(alloc).ok()?;
+    Some((header, changes.as_slice().len(), size))
 }

@@ -1,5 +1,5 @@
 use Rattle.opener.specs.Opener.{Tied}
-use Rattle.opener_tests.proofs.reads.finish.Given as goal
+use Rattle.opener_tests.proofs.calls.finish.Given as goal
 
 abbrev pub invariant-loop : goal.invariant-loop
 invariant-loop g l = Tied l.opener (g.S.Share.state l.share)
