@@ -2,4 +2,5 @@ pub mod FirstWords
 pub mod Candidates
 pub mod Outlooks
 pub mod Loads
+pub mod Maps
 pub mod Inside
