@@ -80,6 +80,7 @@ impl Loading {
         ensures answered { OnOk result (OnTold (S.state share.new).told (λ h. size_in self.new.first ≡ file_size (region_after h.start h.past))) }
         ensures done { IfOk result (λ went. Says went self.new) }
         ensures accepted { OnOk result (10 ≤ loads_of self.new → HasAccepted self.new.first) }
+        ensures many { OnOk result (is_done self.new ≡ true → 10 ≤ loads_of self.new) }
         ensures told { OnOk result (OnTold (S.state share.new).told (λ h. HasLoaded self.new (region_after h.start h.past))) }
         ensures err { IfErr result (λ stop. StopsLoading stop (S.state share.old) (S.state share.new)) }
         ensures tenth { IfErr result (λ stop. IsTenthIfRecord stop self.old) }
@@ -177,6 +178,7 @@ impl Loading {
         ensures done { Says result self.now }
         ensures bound { loads_of self.now ≤ 10 + size_in self.now.first / 4 }
         ensures accepted { 10 ≤ loads_of self.now → HasAccepted self.now.first }
+        ensures many { is_done self.now ≡ true → 10 ≤ loads_of self.now }
     {
         match self.outlook {
             Outlook::Wants(_) => Went::Going,

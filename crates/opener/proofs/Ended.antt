@@ -25,6 +25,7 @@ use Rattle.opener.proofs.Stopped.{nothing_told}
 use Rattle.opener.specs.Steps.{IsPlaceOf, KeepsImage, Steps}
 use Rattle.opener.proofs.Added.{adds_quietly, unlock_quietly}
 use Rattle.opener.proofs.Adding.{finishes_made, finishes_counts, none_more}
+use Rattle.opener.proofs.Counting.{unlocked_counted}
 use Rattle.opener.proofs.EndClauses.{finishes_call, finishes_acts}
 use Rattle.opener.proofs.Falling.{finishes_falls}
 use Rattle.opener.proofs.StopClauses.{same_call, takes_none}
@@ -113,5 +114,6 @@ unlocks {o} {running} {how} {result} {new} {s} {t} tied ended goes is count =
       answer = unlocked_answer o running s t goes how ended result new tied count is;
       place = unlocked_place o running s t goes how ended result new tied count is;
       image = unlocked_image o running s t goes how ended result new tied is;
+      counts = λ has. unlocked_counted o.who running how ended o result new has is;
       falls = finishes_falls running running (stage.Unlock how) how ended o result new t is;
     }

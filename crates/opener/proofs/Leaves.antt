@@ -21,7 +21,8 @@ use Rattle.opener.specs.Calls.{IsPlain, is_write}
 use Rattle.opener.specs.Ends.{Leaves, LeavesBy, OnImage, answer_of, lock_by}
 use Rattle.opener.specs.Opener.{Tied, ImageIs, EndIs, EndsNow, IsLastPlace, KeepsWords, MayEnd, OnAnswer, IsAnswer, IsCalm, running_as}
 use Rattle.opener.specs.Plans.{IsSoundImage}
-use Rattle.opener.specs.Steps.{IsKeptBy, IsPlaceOf, KeepsImage, answers_by_look, peek_of}
+use Rattle.opener.specs.Fresh.{answers_by_look}
+use Rattle.opener.specs.Steps.{IsKeptBy, IsPlaceOf, KeepsImage, peek_of}
 use Rattle.opener.specs.declared.calls.Step.{Step}
 use Rattle.opener.specs.declared.calls.Step.TheVariants as step
 use Rattle.opener.specs.declared.work.Running.{Running}

@@ -3,6 +3,7 @@ pub mod Adding
 pub mod AddsBy
 pub mod Begun
 pub mod Carry
+pub mod Counting
 pub mod EndClauses
 pub mod Ended
 pub mod Falling

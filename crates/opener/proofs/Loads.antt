@@ -1,5 +1,5 @@
 -- What an opener knows after a load.
-use Rattle.std.proofs.Common.{◌+◌, ◌≡◌, ◌≢◌, ℕ, arith, true, List, [], length, refl, sym, ◌∙◌, subst, ap, take_all}
+use Rattle.std.proofs.Common.{◌+◌, ◌≡◌, ◌≢◌, ◌≤◌, ℕ, arith, true, List, [], length, refl, sym, ◌∙◌, subst, ap, take_all}
 use Rattle.std.specs.Prelude.{Option, Some, None, ⊤, is_some, unwrap_or, option_and_then}
 use Rattle.std.specs.FinMap as fin
 use Rattle.expiring_map.specs.Map.{Map}
@@ -24,7 +24,7 @@ use Rattle.region_words.proofs.MainLaw.{main_law}
 use Rattle.region_words.proofs.Notices.{kept_at_rest, whole_history}
 use Rattle.region_words.proofs.Shows.{whole_shown}
 use Rattle.region_words.proofs.Telling.{told_and, told_map}
-use Rattle.loader.specs.Loads.{IsLoadOf, IsLoadedWhole, IsRefusedFor, Load as Loading}
+use Rattle.loader.specs.Loads.{IsLoadOf, IsLoadedWhole, IsRefusedFor, Load as Loading, loads_of}
 use Rattle.loader.specs.declared.loaded.Image.{Image}
 use Rattle.loader.specs.declared.loaded.Loaded.{Loaded}
 use Rattle.opener.specs.State.{OpenerState}
@@ -159,7 +159,7 @@ module _ (o : OpenerState) (running next : Running) (old : Loading) (result : St
   pub stop_steps : (stop : Stop) (ended : ℕ) → MayEnd (end.Stop stop) → HasReason (Runs running (Load old)) stop s t → ended ≡ changes_told t.told →
       Leaves next (end.Stop stop) ended o result new → Steps o running (Load old) result new s t
   stop_steps stop ended may reason count left =
-      loads_leave tied (λ stored none. none) o next (end.Stop stop) ended (leaving o.image tied.sound) goes more tied.at.1 tt (λ a. tt) left count refl may reason (λ so_far are. are) (λ looks. absurd cc) (stop_left stop)
+      loads_leave tied (λ stored none. none) o next (end.Stop stop) ended (leaving o.image tied.sound) goes more tied.at.1 tt (λ a. tt) left count refl may reason (λ so_far are. are) (λ looks. absurd cc) (λ has. tt) (stop_left stop)
       (load_left running next old t (end.Stop stop))
 
   -- the load is done
@@ -201,8 +201,8 @@ module _ (o : OpenerState) (running next : Running) (old : Loading) (result : St
     abbrev Is : Shown → Type 0
     Is z = IsLoadedBy z next found place o result new
 
-    pub done_steps : IsLoaded next found place o result new → Steps o running (Load old) result new s t
-    done_steps is = go found.shown refl is
+    pub done_steps : 9 ≤ loads_of old → IsLoaded next found place o result new → Steps o running (Load old) result new s t
+    done_steps last is = go found.shown refl is
       where
         stops : (z : Shown) → ((n : ℕ) → z ≢ seen.Whole n) → found.shown ≡ z → Leaves next (end.Stop (why.NotWhole z)) place o result new → Steps o running (Load old) result new s t
         stops z other e left = stop_steps (why.NotWhole z) place tt (no_reason z other e) count left
@@ -210,7 +210,7 @@ module _ (o : OpenerState) (running next : Running) (old : Loading) (result : St
         go : (z : Shown) → found.shown ≡ z → Is z → Steps o running (Load old) result new s t
         go (seen.Whole n) e is =
             loads_ready tied (λ stored none. none) mid next place place found.image (leaving (Some found.image) (sound_load found sound)) goes more tied.at.1 tt (λ how. tt) (λ a. tt) is count refl refl looks_next (λ so_far none. none) (λ looks. absurd cc)
-            (whole_ready n e) (plainly_shorter _ _ t refl (λ words. omega arith)) (load_left running next old t)
+            (λ has. omega (arith, has, last, ap (λ (r : Running). r.loads) more)) (λ has read. omega (arith, has, last, ap (λ (r : Running). r.loads) more)) (whole_ready n e) (plainly_shorter _ _ t refl (λ words. omega arith)) (load_left running next old t)
         go (seen.Header n) e is = stops (seen.Header n) (λ k both. absurd cc) e is
         go (seen.Last n) e is = stops (seen.Last n) (λ k both. absurd cc) e is
         go (seen.Damaged d) e is = stops (seen.Damaged d) (λ k both. absurd cc) e is

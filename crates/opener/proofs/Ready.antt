@@ -23,7 +23,8 @@ use Rattle.opener.specs.Continues.{SameCall}
 use Rattle.opener.specs.Ends.{IsReady, IsReadyBy, OnImage, Replies, lock_by}
 use Rattle.opener.specs.Plans.{CanWrite}
 use Rattle.opener.specs.Opener.{IsCalm, Facts, Tied, ImageIs, IsImage, IsShown, LooksUnder, MayEnd, OnAnswer, IsAnswer, HasCause, KeepsCall, running_as, stop_found}
-use Rattle.opener.specs.Steps.{ActsAt, IsPlaceOf, KeepsImage, answers_by_look, peek_of}
+use Rattle.opener.specs.Fresh.{answers_by_look}
+use Rattle.opener.specs.Steps.{ActsAt, IsPlaceOf, KeepsImage, peek_of}
 use Rattle.opener.specs.declared.calls.Step.{Step}
 use Rattle.opener.specs.declared.calls.Step.TheVariants as step
 use Rattle.opener.specs.declared.calls.Stop.TheVariants as why

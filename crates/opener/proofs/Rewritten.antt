@@ -24,6 +24,7 @@ use Rattle.opener.specs.declared.work.Running.{Running}
 use Rattle.opener.specs.declared.work.Stage.TheVariants.{Store}
 use Rattle.opener.specs.declared.work.Work.TheVariants.{Runs}
 use Rattle.opener.proofs.AddsBy.{event_goes}
+use Rattle.opener.proofs.Counting.{going_counted, stored_loads}
 use Rattle.opener.proofs.EndClauses.{going_answer, going_call, going_acts, going_cause, going_image}
 use Rattle.opener.proofs.Falling.{few_stores, going_falls, store_shorter}
 use Rattle.opener.proofs.Followed.{followed_tied}
@@ -65,6 +66,7 @@ module _ {o : OpenerState} {running : Running} {plan : Plan} {result : Step} {ne
         answer = going_answer next (Store then) o result new _ on;
         place = going_answer next (Store then) o result new _ on;
         image = going_image (Store plan) next (Store then) o o.image result new t (λ looks. absurd cc) on;
+        counts = λ has. going_counted (Store plan) next (Store then) o result new (omega (arith, has, stored_loads (next_of (first_events plan)) running next more)) on;
         falls = going_falls (Runs running (Store plan)) next (Store then) o result new t (store_shorter running next plan b.events s t made (Store then) (λ words. omega (arith, few_stores words then, fewer))) on;
       }
 

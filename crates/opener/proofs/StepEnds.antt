@@ -1,6 +1,6 @@
 -- How a step ends: its call on the share was not answered, it waits, goes on, or leaves.
 use Rattle.std.proofs.Common.{◌≡◌, ℕ, ◌+◌, List, [], refl, sym, ◌∙◌, subst, ap, inr, lit≤, true, false}
-use Rattle.std.specs.Prelude.{Option, Some, None}
+use Rattle.std.specs.Prelude.{◌≤◌, Option, Some, None, not}
 use Rattle.change_log.specs.Settled.{AreOfCall}
 use Rattle.change_log.specs.declared.call.Answer.{Answer}
 use Rattle.change_log.specs.declared.call.Reply.TheVariants.{Done}
@@ -20,7 +20,8 @@ use Rattle.opener.specs.Continues.{SameCall}
 use Rattle.opener.specs.Counted.{counted}
 use Rattle.opener.specs.Ends.{answer_of, GoesOn, IsDone, IsReady, Leaves, Waits, lock_by}
 use Rattle.opener.specs.Opener.{Tied, HasCause, IsAnswer, LooksUnder, KeepsCall, MayEnd, OnAnswer, is_storing, running_as, stop_found}
-use Rattle.opener.specs.Steps.{ActsAt, IsKeptBy, IsPlaceOf, KeepsImage, Steps, answers_by_look, peek_of, still_looks}
+use Rattle.opener.specs.Fresh.{CountedBy, CountsNone, CountsSoFar, HasCounted, answers_by_look}
+use Rattle.opener.specs.Steps.{ActsAt, IsKeptBy, IsPlaceOf, KeepsImage, Steps, peek_of, still_looks}
 use Rattle.opener.specs.declared.calls.Step.{Step}
 use Rattle.opener.specs.declared.calls.Step.TheVariants as step
 use Rattle.opener.specs.declared.work.Running.{Running}
@@ -30,6 +31,7 @@ use Rattle.opener.specs.declared.work.Stage.TheVariants.{Size, Unlock}
 use Rattle.opener.specs.declared.work.Work.TheVariants.{Idle, Runs}
 use Rattle.opener.proofs.Added.{Quietly, adds_quietly, load_quietly, lock_quietly, stopped_adds, tried_adds, waits_adds}
 use Rattle.opener.proofs.Adding.{done_counts, done_made, going_counts, going_made, leaves_counts, leaves_made, load_more, lock_more, ready_counts, ready_made}
+use Rattle.opener.proofs.Counting.{EndCounted, ReadCounted, few_counts, going_counted, leaves_counted, ready_counted, stopped_counted}
 use Rattle.opener.proofs.EndClauses.{EndHasReason, going_answer, going_call, going_acts, going_cause, going_image, leaves_call, leaves_acts, leaves_cause, loads_once}
 use Rattle.opener.proofs.Falling.{always_told, blocked_falls, done_falls, going_falls, leaves_falls, ready_falls, stopped_falls}
 use Rattle.opener.proofs.Leaves.{LeftWith, Leaving, leaves_answer, leaves_image, leaves_place, leaves_tied}
@@ -71,6 +73,7 @@ module _ {o : OpenerState} {running : Running} {stage : Stage} {result : Step} {
         answer = stopped_answer stop o running stage result new _ after;
         place = stopped_answer stop o running stage result new _ after;
         image = stopped_image stop o running stage result new t after;
+        counts = λ has. stopped_counted stop o running stage result new has after;
         falls = stopped_falls stop o running stage result new t after;
       }
 
@@ -93,6 +96,7 @@ module _ {o : OpenerState} {running : Running} {stage : Stage} {result : Step} {
         answer = stopped_answer stop o running stage result new _ after;
         place = stopped_answer stop o running stage result new _ after;
         image = stopped_image stop o running stage result new t after;
+        counts = λ has. stopped_counted stop o running stage result new has after;
         falls = stopped_falls stop o running stage result new t after;
       }
 
@@ -111,6 +115,7 @@ module _ {o : OpenerState} {running : Running} {stage : Stage} {result : Step} {
         answer = subst (λ r. OnAnswer r (λ a. OnTold t.told (λ h. IsAnswer a h.start h.past))) (sym on.0) tt;
         place = subst (λ r. OnAnswer r (λ a. OnTold t.told (λ h. IsPlaceOf (peek_of stage) a))) (sym on.0) tt;
         image = subst (λ r. KeepsImage r stage o.image new t) (sym on.0) (ap (λ (n : OpenerState). n.image) on.1);
+        counts = λ has. subst (λ r. CountedBy r stage new.work) (sym on.0) (subst (λ (n : OpenerState). CountsSoFar n.work) (sym on.1) has);
         falls = blocked_falls running stage holder o result new t on;
       }
 
@@ -118,8 +123,8 @@ module _ {o : OpenerState} {running : Running} {stage : Stage} {result : Step} {
   pub answers_done : StoresNothing stage → (next : Running) (loads : ℕ) (lock : Option LockKind) → Quietly loads lock s t → ((kind : LockKind) → lock ≡ Some kind → IsTried (Runs running stage) kind) → (holds place : ℕ) → IsDone next holds place o result new → SameCall running next →
       IsRaised running loads 0 (locks_taken None lock) next.loads next.stores next.locks → holds ≡ holds_after running.call o.holds →
       ((so_far : List Change) → AreMadeAt o.who running stage so_far → AreOfCall o.who running.call running.now so_far) → ((a : Answer) → ActsAt (step.Answered a) stage o.image new.work s t) → answers_by_look stage ≡ true → IsPlaceOf (peek_of stage) (answer_of o.who next place place Done) →
-      Tied (record o { holds = holds; work = Idle }) t → OnTold t.told (λ h. IsAnswer (answer_of o.who next place place Done) h.start h.past) → Steps o running stage result new s t
-  answers_done calm next loads lock did tried holds place done same more left made carried looks at then answer =
+      (HasCounted stage running → CountsNone next) → Tied (record o { holds = holds; work = Idle }) t → OnTold t.told (λ h. IsAnswer (answer_of o.who next place place Done) h.start h.past) → Steps o running stage result new s t
+  answers_done calm next loads lock did tried holds place done same more left made carried looks at none then answer =
       record {
         tied = subst (λ (n : OpenerState). Tied n t) (sym done.1) then;
         makes = did.makes;
@@ -138,15 +143,18 @@ module _ {o : OpenerState} {running : Running} {stage : Stage} {result : Step} {
         image = subst (λ r. KeepsImage r stage o.image new t) (sym done.0)
             (subst (λ (n : OpenerState). KeepsImage (step.Answered (answer_of o.who next place place Done)) stage o.image n t) (sym done.1)
             (subst (λ b. IsKeptBy b (is_write next.call) o.image o.image t) (sym looks) refl));
+        counts = λ has.
+            let few = none has in
+            subst (λ r. CountedBy r stage new.work) (sym done.0) (few_counts next.loads next.stores 0 refl few.0 few.1 ∙ sym (ap not looks));
         falls = done_falls running next stage holds place o result new t done;
       }
 
   module _ (calm : StoresNothing stage) (mid : OpenerState) (next : Running) where
     -- the call goes on
     pub goes_on : (loads : ℕ) (lock : Option LockKind) → Quietly loads lock s t → ((kind : LockKind) → lock ≡ Some kind → IsTried (Runs running stage) kind) → (to : Stage) → mid.holds ≡ o.holds → SameCall running next →
-        IsRaised running loads 0 (locks_taken None lock) next.loads next.stores next.locks → ActsAt step.Going stage o.image (Runs next to) s t → (still_looks to ≡ true → (still_looks stage ≡ true) × (mid.image ≡ o.image)) → GoesOn next to mid result new → stop_found (Runs next to) ≡ None →
+        IsRaised running loads 0 (locks_taken None lock) next.loads next.stores next.locks → ActsAt step.Going stage o.image (Runs next to) s t → (still_looks to ≡ true → (still_looks stage ≡ true) × (mid.image ≡ o.image)) → (HasCounted stage running → HasCounted to next) → GoesOn next to mid result new → stop_found (Runs next to) ≡ None →
         ((so_far : List Change) → AreMadeAt o.who running stage so_far → AreMadeAt o.who next to so_far) → Tied (running_as mid next to) t → Shortens (Runs running stage) (Runs next to) t → Steps o running stage result new s t
-    goes_on loads lock did tried to holds same more carried keeps on none made then short =
+    goes_on loads lock did tried to holds same more carried keeps counted on none made then short =
         record {
           tied = subst (λ (n : OpenerState). Tied n t) (sym on.1) then;
           makes = did.makes;
@@ -159,6 +167,7 @@ module _ {o : OpenerState} {running : Running} {stage : Stage} {result : Step} {
           answer = going_answer next to mid result new _ on;
           place = going_answer next to mid result new _ on;
           image = going_image stage next to mid o.image result new t keeps on;
+          counts = λ has. going_counted stage next to mid result new (counted has) on;
           falls = going_falls (Runs running stage) next to mid result new t short on;
         }
 
@@ -166,8 +175,8 @@ module _ {o : OpenerState} {running : Running} {stage : Stage} {result : Step} {
     pub leaves : (loads : ℕ) → Quietly loads None s t → (how : End) (ended : ℕ) → Leaving o mid running next s t → SameCall running next → IsPlain running.call →
         IsRaised running loads 0 0 next.loads next.stores next.locks → ActsAt step.Going stage o.image (Runs next (Unlock how)) s t → ((a : Answer) → ActsAt (step.Answered a) stage o.image new.work s t) → Leaves next how ended mid result new → ended ≡ changes_told t.told → stop_found (Runs running stage) ≡ None → MayEnd how →
         EndHasReason (Runs running stage) how s t → ((so_far : List Change) → AreMadeAt o.who running stage so_far → AreMadeAt o.who running (Unlock how) so_far) →
-        (answers_by_look stage ≡ true → mid.image ≡ o.image) → OnTold t.told (λ k. LeftWith (peek_of stage) mid next how k.start k.past) → Shortens (Runs running stage) (Runs next (Unlock how)) t → Steps o running stage result new s t
-    leaves loads did how ended is same plain more goes answers left count none may reason made keeps told short =
+        (answers_by_look stage ≡ true → mid.image ≡ o.image) → (HasCounted stage running → EndCounted how stage next) → OnTold t.told (λ k. LeftWith (peek_of stage) mid next how k.start k.past) → Shortens (Runs running stage) (Runs next (Unlock how)) t → Steps o running stage result new s t
+    leaves loads did how ended is same plain more goes answers left count none may reason made keeps counted told short =
         record {
           tied = leaves_tied o mid running next stage s t tied is how ended result new may told left;
           makes = did.makes;
@@ -180,39 +189,41 @@ module _ {o : OpenerState} {running : Running} {stage : Stage} {result : Step} {
           answer = leaves_answer (peek_of stage) mid next t how ended result new count told left;
           place = leaves_place (peek_of stage) mid next t how ended result new count told left;
           image = leaves_image stage mid next o.image t how ended result new keeps told left;
+          counts = λ has. leaves_counted stage next how ended mid result new (counted has) left;
           falls = leaves_falls running next stage how ended mid result new t short left;
         }
 
     -- a load was made, and the call goes on
     pub loads_on : (to : Stage) → mid.holds ≡ o.holds → Goes (loaded s) s t → next ≡ record running { loads = counted (running.loads + 1) } →
-        ActsAt step.Going stage o.image (Runs next to) s t → (still_looks to ≡ true → (still_looks stage ≡ true) × (mid.image ≡ o.image)) → GoesOn next to mid result new → stop_found (Runs next to) ≡ None → ((so_far : List Change) → AreMadeAt o.who running stage so_far → AreMadeAt o.who next to so_far) →
+        ActsAt step.Going stage o.image (Runs next to) s t → (still_looks to ≡ true → (still_looks stage ≡ true) × (mid.image ≡ o.image)) → (HasCounted stage running → HasCounted to next) → GoesOn next to mid result new → stop_found (Runs next to) ≡ None → ((so_far : List Change) → AreMadeAt o.who running stage so_far → AreMadeAt o.who next to so_far) →
         Tied (running_as mid next to) t → Shortens (Runs running stage) (Runs next to) t → Steps o running stage result new s t
-    loads_on to holds goes more carried keeps on none made then short =
-        goes_on 1 None (load_quietly goes) (λ kind some. absurd (no_kind some)) to holds (loaded_same running next more).same (load_more running next more) carried keeps on none made then short
+    loads_on to holds goes more carried keeps counted on none made then short =
+        goes_on 1 None (load_quietly goes) (λ kind some. absurd (no_kind some)) to holds (loaded_same running next more).same (load_more running next more) carried keeps counted on none made then short
 
     -- a lock was taken, and the call goes on
     pub locks_on : (kind : LockKind) → IsTried (Runs running stage) kind → (to : Stage) → mid.holds ≡ o.holds → s.holds ≡ None → Tries kind Taken s t → next ≡ record running { taken = Some kind; locks = counted (running.locks + 1) } →
-        ActsAt step.Going stage o.image (Runs next to) s t → (still_looks to ≡ true → (still_looks stage ≡ true) × (mid.image ≡ o.image)) → GoesOn next to mid result new → stop_found (Runs next to) ≡ None → ((so_far : List Change) → AreMadeAt o.who running stage so_far → AreMadeAt o.who next to so_far) →
+        ActsAt step.Going stage o.image (Runs next to) s t → (still_looks to ≡ true → (still_looks stage ≡ true) × (mid.image ≡ o.image)) → (HasCounted stage running → HasCounted to next) → GoesOn next to mid result new → stop_found (Runs next to) ≡ None → ((so_far : List Change) → AreMadeAt o.who running stage so_far → AreMadeAt o.who next to so_far) →
         Tied (running_as mid next to) t → Shortens (Runs running stage) (Runs next to) t → Steps o running stage result new s t
-    locks_on kind tried to holds free tries more carried keeps on none made then short =
-        goes_on 0 (Some kind) (lock_quietly kind tries.0 free) (λ k is. tried ∙ is) to holds (locked_same running next kind more).0 (lock_more kind running next more) carried keeps on none made then short
+    locks_on kind tried to holds free tries more carried keeps counted on none made then short =
+        goes_on 0 (Some kind) (lock_quietly kind tries.0 free) (λ k is. tried ∙ is) to holds (locked_same running next kind more).0 (lock_more kind running next more) carried keeps counted on none made then short
 
     -- a load was made, and the call leaves
     pub loads_leave : (how : End) (ended : ℕ) → Leaving o mid running next s t → Goes (loaded s) s t → next ≡ record running { loads = counted (running.loads + 1) } → IsPlain running.call →
         ActsAt step.Going stage o.image (Runs next (Unlock how)) s t → ((a : Answer) → ActsAt (step.Answered a) stage o.image new.work s t) → Leaves next how ended mid result new → ended ≡ changes_told t.told → stop_found (Runs running stage) ≡ None → MayEnd how → EndHasReason (Runs running stage) how s t →
         ((so_far : List Change) → AreMadeAt o.who running stage so_far → AreMadeAt o.who running (Unlock how) so_far) →
-        (answers_by_look stage ≡ true → mid.image ≡ o.image) → OnTold t.told (λ k. LeftWith (peek_of stage) mid next how k.start k.past) → Shortens (Runs running stage) (Runs next (Unlock how)) t → Steps o running stage result new s t
-    loads_leave how ended is goes more plain going answers left count none may reason made keeps told short =
-        leaves 1 (load_quietly goes) how ended is (loaded_same running next more).same plain (load_more running next more) going answers left count none may reason made keeps told short
+        (answers_by_look stage ≡ true → mid.image ≡ o.image) → (HasCounted stage running → EndCounted how stage next) → OnTold t.told (λ k. LeftWith (peek_of stage) mid next how k.start k.past) → Shortens (Runs running stage) (Runs next (Unlock how)) t → Steps o running stage result new s t
+    loads_leave how ended is goes more plain going answers left count none may reason made keeps counted told short =
+        leaves 1 (load_quietly goes) how ended is (loaded_same running next more).same plain (load_more running next more) going answers left count none may reason made keeps counted told short
 
     -- the last load of an image that is kept from now on
     pub loads_ready : (place ended : ℕ) (i : Image) → Leaving o mid running next s t → Goes (loaded s) s t → next ≡ record running { loads = counted (running.loads + 1) } → IsPlain running.call →
         ActsAt step.Going stage o.image (Runs next Size) s t → ((how : End) → ActsAt step.Going stage o.image (Runs next (Unlock how)) s t) → ((a : Answer) → ActsAt (step.Answered a) stage o.image new.work s t) →
         IsReady next place ended mid result new → ended ≡ changes_told t.told → stop_found (Runs running stage) ≡ None → mid.image ≡ Some i →
         LooksUnder next (lock_by mid.holds next.taken) → ((so_far : List Change) → AreMadeAt o.who running stage so_far → so_far ≡ []) →
-        (answers_by_look stage ≡ true → mid.image ≡ o.image) → OnTold t.told (λ k. ReadyWith (peek_of stage) mid i next place k.start k.past) →
+        (answers_by_look stage ≡ true → mid.image ≡ o.image) → (HasCounted stage running → 2 ≤ next.loads) → (HasCounted stage running → is_write next.call ≡ false → ReadCounted (answers_by_look stage) next) →
+        OnTold t.told (λ k. ReadyWith (peek_of stage) mid i next place k.start k.past) →
         Shortens (Runs running stage) (Runs next Size) t → ((how : End) → Shortens (Runs running stage) (Runs next (Unlock how)) t) → Steps o running stage result new s t
-    loads_ready place ended i is goes more plain sizes unlocks answers ready count none kept looks made keeps told size unlock =
+    loads_ready place ended i is goes more plain sizes unlocks answers ready count none kept looks made keeps two many told size unlock =
         let same = (loaded_same running next more).same in
         record {
           tied = ready_tied o mid i running next stage place ended result new s t tied is kept same looks told ready;
@@ -227,5 +238,6 @@ module _ {o : OpenerState} {running : Running} {stage : Stage} {result : Step} {
           answer = ready_answer o mid i running next stage place ended result new s t tied is kept same looks told count ready;
           place = ready_place o mid i running next stage place ended result new s t tied is kept same looks told count ready;
           image = ready_image o mid i running next stage place ended result new s t tied is kept same looks told keeps ready;
+          counts = λ has. ready_counted stage next place ended mid result new (two has) (many has) ready;
           falls = ready_falls running next stage place ended mid result new t size unlock ready;
         }

@@ -39,6 +39,7 @@ use Rattle.opener.specs.declared.work.End.TheVariants as end
 use Rattle.opener.specs.declared.work.Stage.TheVariants as stage
 use Rattle.opener.specs.declared.work.Work.TheVariants.{Runs}
 use Rattle.opener.proofs.AddsBy.{event_written}
+use Rattle.opener.proofs.Counting.{leaves_counted, stored_loads}
 use Rattle.opener.proofs.EndClauses.{leaves_call, leaves_acts, leaves_cause}
 use Rattle.opener.proofs.Falling.{written_falls}
 use Rattle.opener.proofs.Carry.{told_call, changes_are, more_changes}
@@ -203,5 +204,6 @@ module _ (o : OpenerState) (running next : Running) (plan : Plan) (b : Making) (
         answer = leaves_answer None mid next t how ended result new count left written;
         place = leaves_place None mid next t how ended result new count left written;
         image = leaves_image (stage.Store plan) mid next o.image t how ended result new (λ looks. absurd cc) left written;
+        counts = λ has. leaves_counted (stage.Store plan) next how ended mid result new (refl, omega (arith, has, stored_loads (next_of (first_events plan)) running next more)) written;
         falls = written_falls running next plan b.events s t made (image_after b m) ended o result new written;
       }

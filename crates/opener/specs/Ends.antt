@@ -15,7 +15,8 @@ use Rattle.region_words.specs.Region.{Region}
 use Rattle.region_words.specs.Making.{Making}
 use Rattle.region_words.specs.declared.standing.Standing.{Standing}
 use Rattle.region_words.specs.declared.stops.Peek.{Peek}
-use Rattle.loader.specs.Loads.{Load, HasLoaded, is_done}
+use Rattle.loader.specs.Loads.{Load, HasLoaded, is_done, loads_of}
+use Rattle.loader.specs.Maps.{map_of_image}
 use Rattle.loader.specs.declared.loaded.Image.{Image}
 use Rattle.loader.specs.declared.loaded.Loaded.{Loaded}
 use Rattle.opener.specs.Calls.{is_write}
@@ -83,6 +84,7 @@ Leaves running how ended old result new = LeavesBy running.taken running how end
 
 -- a load of which nothing is made yet
 pub record IsFresh (l : Load) : Type 0 where
+  pub none : loads_of l ≡ 0
   pub going : is_done l ≡ false
   pub told : (r : Region) → HasLoaded l r
 
@@ -116,7 +118,7 @@ is_current (Some i) peek sequence = (i.standing.checksum == peek.checksum) && (i
 -- the call ends with the reply of this map, or memory is short
 abbrev pub Replies : Running → Image → ℕ → End → Type 0
 Replies running i place how =
-    ((reply : Reply) × (reply ≡ reply_in i.map running.now running.call) × (how ≡ end.Answer place reply)) ⊎ (how ≡ end.Stop why.Memory)
+    ((reply : Reply) × (reply ≡ reply_in (map_of_image i) running.now running.call) × (how ≡ end.Answer place reply)) ⊎ (how ≡ end.Stop why.Memory)
 
 -- a write goes on to the file's size, and another call is answered by the image
 abbrev pub IsReadyBy : Bool → Running → ℕ → ℕ → OpenerState → Step → OpenerState → Type 0

@@ -13,4 +13,5 @@ pub mod Settles
 pub mod Quiet
 pub mod Quick
 pub mod Lent
+pub mod Fresh
 pub mod Steps

@@ -27,6 +27,7 @@ use Rattle.region_words.specs.declared.event.Event.{Event}
 use Rattle.region_words.specs.declared.stops.Peek.{Peek}
 use Rattle.region_words.specs.declared.stops.ShareStop.TheVariants as stop
 use Rattle.loader.specs.Loads.{HasLoaded, is_done}
+use Rattle.loader.specs.Maps.{map_of_image}
 use Rattle.loader.specs.declared.loaded.Image.{Image}
 use Rattle.opener.specs.Calls.{IsPlain, IsTried, holds_after, is_write}
 use Rattle.opener.specs.Continues.{SameCall}
@@ -119,9 +120,9 @@ IsAt o (Runs running stage) = (0 < o.holds → running.taken ≡ None) × Suits 
 
 -- no row is under way, and the region shows this image whole: the map of the history
 pub record IsShown (i : Image) (start : Region) (past : List Event) : Type 0 where
-  pub kept : IsKept start past i.standing.size i.map
+  pub kept : IsKept start past i.standing.size (map_of_image i)
   pub known : IsStandingOf (region_after start past) i.standing.size i.standing
-  pub history : i.map ≡ map_after start past
+  pub history : map_of_image i ≡ map_after start past
 
 -- it did at an earlier moment
 pub record WasShown (i : Image) (start : Region) (past : List Event) : Type 0 where

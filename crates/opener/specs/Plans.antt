@@ -14,6 +14,7 @@ use Rattle.change_log.specs.declared.change.Change.{Change}
 use Rattle.region_words.specs.Rows.{item_of, IsKey, AreBytes}
 use Rattle.region_words.specs.Making.{Making}
 use Rattle.region_words.specs.declared.standing.Standing.{Standing}
+use Rattle.loader.specs.Maps.{map_of_image}
 use Rattle.loader.specs.declared.loaded.Image.{Image}
 use Rattle.appender.specs.Appends.{CanAppend, appending}
 use Rattle.write_back.specs.Rewrites.{CanBegin, file_for, rewriting}
@@ -40,7 +41,7 @@ pub record IsSoundStanding (s : Standing) : Type 0 where
 -- and its map can be packed again, to as many bytes and the four that a payload begins with
 pub record IsSoundImage (i : Image) : Type 0 where
   pub standing : IsSoundStanding i.standing
-  pub map : FitsIn i.standing.flag i.map (i.standing.size + 4)
+  pub map : FitsIn i.standing.flag (map_of_image i) (i.standing.size + 4)
 
 -- the second at which a pair expires that is put now, or why it isn't put
 abbrev pub expiry_of : Bool → ℕ → ℕ → Result ℕ Stop
@@ -85,19 +86,19 @@ refusal_of _ now s m = None
 pub record IsAppendPlan (change : Change) (i : Image) (plan : Plan) : Type 0 where
   pub fits : fits_behind i.standing (length (item_of i.standing.flag change.act)) ≡ true
   pub can : CanAppend i.standing change
-  pub is : plan ≡ Append (appending i.standing change) (applied i.map change.act)
+  pub is : plan ≡ Append (appending i.standing change) (applied (map_of_image i) change.act)
 
 -- the live pairs anew, with room for the change's item
 abbrev pub packing : Change → ℕ → Image → Making
 packing change now i =
-    rewriting i.standing (live_part i.map now) (record { maker = change.maker; act = act.Pack now }) (length (item_of i.standing.flag change.act))
+    rewriting i.standing (live_part (map_of_image i) now) (record { maker = change.maker; act = act.Pack now }) (length (item_of i.standing.flag change.act))
 
 -- the live pairs are written anew, and then the change's item is appended
 pub record IsRoomPlan (change : Change) (now : ℕ) (i : Image) (plan : Plan) : Type 0 where
   pub short : fits_behind i.standing (length (item_of i.standing.flag change.act)) ≡ false
-  pub begun : CanBegin i.standing (live_part i.map now) (length (item_of i.standing.flag change.act))
+  pub begun : CanBegin i.standing (live_part (map_of_image i) now) (length (item_of i.standing.flag change.act))
   pub can : CanAppend (packing change now i).standing change
-  pub is : plan ≡ Rewrite (packing change now i) (Some (appending (packing change now i).standing change)) (applied (live_part i.map now) change.act)
+  pub is : plan ≡ Rewrite (packing change now i) (Some (appending (packing change now i).standing change)) (applied (live_part (map_of_image i) now) change.act)
 
 abbrev pub IsItemPlan : Change → ℕ → Image → Plan → Type 0
 IsItemPlan change now i plan = IsAppendPlan change i plan ⊎ IsRoomPlan change now i plan
@@ -117,16 +118,16 @@ abbrev pub IsStop : Option Stop → Stop → Type 0
 IsStop reason stop = (stop ≡ why.Memory) ⊎ (reason ≡ Some stop)
 
 abbrev pub IsNoRoomPlan : Change → ℕ → Image → Stop → Type 0
-IsNoRoomPlan change now i stop = IsStop (rewrite_refusal i.standing (live_part i.map now) (length (item_of i.standing.flag change.act))) stop
+IsNoRoomPlan change now i stop = IsStop (rewrite_refusal i.standing (live_part (map_of_image i) now) (length (item_of i.standing.flag change.act))) stop
 
 abbrev pub IsNoItemPlan : Change → ℕ → Image → Stop → Type 0
-IsNoItemPlan change now i stop = IsStop (item_refusal i.standing i.map now (length (item_of i.standing.flag change.act))) stop
+IsNoItemPlan change now i stop = IsStop (item_refusal i.standing (map_of_image i) now (length (item_of i.standing.flag change.act))) stop
 
 abbrev pub IsNoClearPlan : Standing → Stop → Type 0
 IsNoClearPlan s stop = IsStop (rewrite_refusal s fin.empty 0) stop
 
 abbrev pub IsNotPlanned : Call → ℕ → Image → Stop → Type 0
-IsNotPlanned asked now i stop = IsStop (refusal_of asked now i.standing i.map) stop
+IsNotPlanned asked now i stop = IsStop (refusal_of asked now i.standing (map_of_image i)) stop
 
 -- the events of a row that follows
 abbrev pub events_then : Option Making → ℕ

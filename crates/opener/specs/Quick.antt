@@ -10,6 +10,7 @@ use Rattle.region_words.specs.Images.{checksum_at, sequence_at}
 use Rattle.region_words.specs.Told.{OnTold, changes_told}
 use Rattle.region_words.specs.Share.{ShareState, Goes, Fails, loaded}
 use Rattle.region_words.specs.declared.event.Event.{Event}
+use Rattle.loader.specs.Maps.{map_of_image}
 use Rattle.loader.specs.declared.loaded.Image.{Image}
 use Rattle.opener.specs.declared.quick.Quick.{Quick}
 use Rattle.opener.specs.declared.quick.Quick.TheVariants.{Cold, Stale, Fault}
@@ -54,14 +55,14 @@ pub record IsUpToDate (image : Option Image) (s t : ShareState) : Type 0 where
   pub i : Image
   pub kept : image ≡ Some i
   pub peeks : Peeks i.standing.checksum i.standing.sequence s t
-  pub history : OnTold t.told (λ h. WasMap i.map (changes_told s.told) (changes_told peeks.mid.told) h.start h.past)
+  pub history : OnTold t.told (λ h. WasMap (map_of_image i) (changes_told s.told) (changes_told peeks.mid.told) h.start h.past)
 
 -- an image is kept, both words that were peeked are its own, and the value is the image's and the history's at the first peek
 pub record IsAnswered (image : Option Image) (value : Option (List ℕ)) (key : List ℕ) (now : ℕ) (s t : ShareState) : Type 0 where
   pub i : Image
   pub kept : image ≡ Some i
   pub peeks : Peeks i.standing.checksum i.standing.sequence s t
-  pub value_is : value ≡ value_at i.map key now
+  pub value_is : value ≡ value_at (map_of_image i) key now
   pub history : OnTold t.told (λ h. WasValue value key now (changes_told s.told) (changes_told peeks.mid.told) h.start h.past)
 
 -- an image is kept, both words were peeked, and at least one is not its own

@@ -14,6 +14,7 @@ use Rattle.opener.specs.Adds.{Adds}
 use Rattle.opener.specs.Bound.{Falls}
 use Rattle.opener.specs.Calls.{IsTried, is_write}
 use Rattle.opener.specs.Ends.{is_current}
+use Rattle.opener.specs.Fresh.{CountedBy, HasCounted, answers_by_look}
 use Rattle.opener.specs.Opener.{Tied, MakesOne, KeepsCall, KeepsWords, HasCause, OnAnswer, IsAnswer, IsLastPlace}
 use Rattle.opener.specs.Plans.{events_in, room_in}
 use Rattle.opener.specs.Writes.{first_events}
@@ -92,13 +93,6 @@ still_looks stage.Hold = true
 still_looks stage.Release = true
 still_looks _ = false
 
--- an answer that is given at this stage needs no load of the region
-abbrev pub answers_by_look : Stage → Bool
-answers_by_look (stage.PeekSequence peek) = true
-answers_by_look stage.Hold = true
-answers_by_look stage.Release = true
-answers_by_look _ = false
-
 -- a call that still looks has kept the image so far
 abbrev pub IsStillKept : Stage → Option Image → Work → Option Image → Type 0
 IsStillKept at old (Runs running next) new = still_looks next ≡ true → (still_looks at ≡ true) × (new ≡ old)
@@ -128,4 +122,5 @@ pub record Steps (o : OpenerState) (running : Running) (at : Stage) (result : St
   pub answer : OnAnswer result (λ a. OnTold t.told (λ h. IsAnswer a h.start h.past))
   pub place : OnAnswer result (λ a. OnTold t.told (λ h. IsPlaceOf (peek_of at) a))
   pub image : KeepsImage result at o.image new t
+  pub counts : HasCounted at running → CountedBy result at new.work
   pub falls : Falls (Runs running at) result new.work t

@@ -8,6 +8,7 @@ ghost use Rattle.opener.specs.Opener.{Tied, running_as, HasCause, IsAnswer, Keep
 ghost use Rattle.opener.specs.Bound.{Falls, steps_left};
 ghost use Rattle.opener.specs.Settles.{BeginsSettled, Settles};
 ghost use Rattle.opener.specs.Quiet.{ShowsQuietly};
+ghost use Rattle.opener.specs.Fresh.{CountedBy, CountsSoFar};
 ghost use Rattle.opener.specs.Steps.{ActsAt, IsPlaceOf, KeepsImage, OnRunning, Steps, TakesTried, peek_of};
 
 use crate::calls::{NotBegun, Refused, Step, Stop};
@@ -77,6 +78,7 @@ impl Opener {
         ensures same { OnErr result (self.new ≡ self.old) }
         ensures bound { OnOk result ((words : ℕ) → steps_left words self.new.work ≤ 6 * words + 100) }
         ensures settles { OnOk result (BeginsSettled self.old self.new (S.state share.now)) }
+        ensures counts { OnOk result (CountsSoFar self.new.work) }
     {
         if let Some(why) = self.refusal(&call) {
             return Err(NotBegun { why, call });
@@ -137,6 +139,7 @@ impl Opener {
         ensures answer { OnAnswer result (λ a. OnTold (S.state share.new).told (λ h. IsAnswer a h.start h.past)) }
         ensures place { OnRunning self.old.work (λ stage. OnAnswer result (λ a. OnTold (S.state share.new).told (λ h. IsPlaceOf (peek_of stage) a))) }
         ensures image { OnRunning self.old.work (λ stage. KeepsImage result stage self.old.image self.new (S.state share.new)) }
+        ensures counts { CountsSoFar self.old.work → OnRunning self.old.work (λ stage. CountedBy result stage self.new.work) }
         ensures falls { Falls self.old.work result self.new.work (S.state share.new) }
         ensures settles { Settles self.old result self.new (S.state share.old) (S.state share.new) }
         ensures quiet { ShowsQuietly self.new.who self.new.work (S.state share.new) }

@@ -2,6 +2,7 @@
 ghost use Rattle.std.specs.Prelude.{◌≡◌, ◌↔◌, IsTrue, None, IfOk, IfErr, OnOk, option_copied};
 ghost use Rattle.std.specs.Borrow.{sem};
 ghost use Rattle.expiring_map.specs.Live.{value_at};
+ghost use Rattle.loader.specs.Maps.{map_of_image};
 ghost use Rattle.opener.specs.Ends.{OnImage};
 ghost use Rattle.opener.specs.declared.work.Work.TheVariants.{Idle};
 ghost use Rattle.opener.specs.Opener.{Tied};
@@ -96,8 +97,8 @@ impl Opener {
 
     // The value of a key in the kept image.
     fn kept_value(&self, key: &[u8], now: u32) -> Option<&[u8]>
-        ensures { OnImage self.now.image (λ i. option_copied result ≡ value_at i.map key.now now) }
+        ensures { OnImage self.now.image (λ i. option_copied result ≡ value_at (map_of_image i) key.now now) }
     {
-        self.image.as_ref()?.map.value_at(key, now)
+        self.image.as_ref()?.map().value_at(key, now)
     }
 }

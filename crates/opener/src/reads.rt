@@ -307,7 +307,7 @@ impl Opener {
         let Some(image) = &self.image else {
             unreachable!()
         };
-        match reply_in(self.alloc, &image.map, running.now, &running.call) {
+        match reply_in(self.alloc, image.map(), running.now, &running.call) {
             Ok(reply) => End::Answer { place, reply },
             Err(_) => End::Stop(Stop::Memory),
         }

@@ -1,10 +1,12 @@
 use Rattle.std.proofs.Common.{ℕ, ◌+◌, ◌*◌, ◌≤◌, sym, subst, ap, ◌∙◌}
 use Rattle.opener.specs.Begins.{begun_at}
 use Rattle.opener.specs.Bound.{steps_left}
+use Rattle.opener.specs.Fresh.{CountsSoFar, HasCounted}
 use Rattle.opener.specs.Opener.{running_as}
 use Rattle.opener.specs.State.{OpenerState}
 use Rattle.opener.specs.declared.work.Running.{Running}
 use Rattle.opener.proofs.Begun.{begun_tied}
+use Rattle.opener.proofs.Counting.{first_counted}
 use Rattle.opener.proofs.Falling.{first_bound}
 use Rattle.opener.proofs.Settles.{begin_settles}
 use Rattle.opener.proofs.opener.Opener.begin.Goals as goal
@@ -30,3 +32,10 @@ returns-clause-settles g c =
       first = c.first_stage-stage.ensures;
       work = c.run.ensures ∙ ap (λ (r : Running). running_as o r c.first_stage-stage.result) (c.begun_at.ensures ∙ ap (begun_at c.args.call c.args.now) c.changes-begun.ensures);
     })
+
+pub returns-clause-counts : goal.returns-clause-counts
+returns-clause-counts g c =
+    let o = c.args.self.now in
+    subst (λ (n : OpenerState). CountsSoFar n.work) (sym c.run.ensures)
+    (subst (λ (r : Running). HasCounted c.first_stage-stage.result r) (sym c.begun_at.ensures)
+    (first_counted o.image o.holds c.args.call c.args.now c.changes-begun.result c.first_stage-stage.result c.first_stage-stage.ensures))

@@ -1,12 +1,13 @@
-use Rattle.std.proofs.Common.{refl, subst}
+use Rattle.std.proofs.Common.{◌≤◌, refl, subst, ap, arith}
 use Rattle.region_words.specs.Past.{region_after}
 use Rattle.region_words.proofs.Telling.{told_map}
-use Rattle.loader.specs.Loads.{HasLoaded, IsLoadOf, Load as Loading}
+use Rattle.loader.specs.Loads.{HasLoaded, IsLoadOf, Load as Loading, loads_of}
 use Rattle.opener.specs.Calls.{AfterStop}
 use Rattle.opener.specs.Ends.{Leaves, stop_of}
 use Rattle.opener.specs.declared.calls.Stop.TheVariants as why
 use Rattle.opener.specs.declared.work.End.TheVariants as end
 use Rattle.opener.specs.declared.work.Stage.TheVariants.{Load}
+use Rattle.opener.specs.declared.work.Running.{Running}
 use Rattle.opener.proofs.Falling.{load_shorter}
 use Rattle.opener.proofs.Loads.{done_steps, refused_ends, refused_reason, stop_steps}
 use Rattle.opener.proofs.Same.{loaded_same}
@@ -19,7 +20,7 @@ returns-in-Ok-Going g c =
     let o = c.args.self.now in
     let did = c.in-Ok-Going.ensures in
     let same = loaded_same c.args.running _ c.with_load.ensures in
-    loads_on c.requires (λ stored none. none) o _ (Load c.step.new.self) refl did.goes c.with_load.ensures tt (λ looks. (refl, refl)) c.going.ensures refl (λ so_far are. are)
+    loads_on c.requires (λ stored none. none) o _ (Load c.step.new.self) refl did.goes c.with_load.ensures tt (λ looks. (refl, refl)) (λ has. omega (arith, has, did.loads, ap (λ (r : Running). r.loads) c.with_load.ensures)) c.going.ensures refl (λ so_far are. are)
     (loaded_tied o _ _ c.args.loading _ _ _ c.requires same.same same.taken (rw c.in-Ok-Going.field-0-is at did.done) did.goes did.told)
     (load_shorter _ _ _ _ _ did.loads did.bound did.answered)
 
@@ -28,7 +29,8 @@ returns-in-Ok-Done g c =
     let t = g.S.Share.state c.step.new.share in
     let is = told_map t.told (λ h. HasLoaded c.step.new.self (region_after h.start h.past)) (λ h. IsLoadOf c.finish.result (region_after h.start h.past))
     (λ h has. c.finish.ensures.told (region_after h.start h.past) has) c.in-Ok-Done.ensures.told in
-    done_steps _ _ _ _ _ _ _ t c.requires c.with_load-in-Ok-Done.ensures c.in-Ok-Done.ensures.goes c.finish.result _ c.finish.ensures.whole is c.changes.ensures c.loaded.ensures
+    let last : 9 ≤ loads_of c.args.loading = omega (arith, c.in-Ok-Done.ensures.loads, c.in-Ok-Done.ensures.many (rw c.in-Ok-Done.field-0-is at c.in-Ok-Done.ensures.done)) in
+    done_steps _ _ _ _ _ _ _ t c.requires c.with_load-in-Ok-Done.ensures c.in-Ok-Done.ensures.goes c.finish.result _ c.finish.ensures.whole is c.changes.ensures last c.loaded.ensures
 
 pub returns-in-Err-Share : goal.returns-in-Err-Share
 returns-in-Err-Share g c =

@@ -28,7 +28,7 @@ returns-in-Ok g c =
     let both = subst (λ n. Goes (reserving (counted (events_in plan)) n s) s t) c.room.ensures goes in
     let exact = subst (λ n. Goes (reserving n (room_in plan) s) s t) (counted_is (events_in plan) c.requires.at.2.1.few) both in
     goes_on c.requires (λ stored none. none) o running 0 None (none_quietly (reserving c.events.result c.room.result s) c.in-Ok.ensures.ok.after refl refl refl) (λ kind is. absurd cc) (Store plan) refl
-    (same_call running) (none_more running) (refl, exact) (λ looks. absurd cc) c.going.ensures refl (λ so_far are. subst (λ l. AreOfCall o.who running.call running.now (l ++ commits_in plan)) (sym are) c.requires.at.2.3)
+    (same_call running) (none_more running) (refl, exact) (λ looks. absurd cc) (λ has. has) c.going.ensures refl (λ so_far are. subst (λ l. AreOfCall o.who running.call running.now (l ++ commits_in plan)) (sym are) c.requires.at.2.3)
     (reserved_tied o running plan s t c.requires both) (reserved_shorter running running t plan)
 
 pub returns-in-Memory : goal.returns-in-Memory
@@ -42,7 +42,7 @@ returns-in-Memory g c =
     let stops = subst (λ stop. StopsReserving c.events.result stop s t) c.in-Memory.is c.in-Err.ensures.err in
     leaves c.requires (λ stored none. none) o running 0 (none_quietly (unmoved s) stops.after refl refl refl) (end.Stop why.Memory) c.changes.result
     (unreserved_leaving o running plan s t c.requires stops plain) (same_call running) plain (none_more running) tt (λ a. tt) c.leave.ensures c.changes.ensures refl tt tt (λ so_far are. are)
-    (λ looks. absurd cc) (unreserved_left o running plan s t c.requires stops why.Memory) (unreserved_shorter running running t plan (end.Stop why.Memory))
+    (λ looks. absurd cc) (λ has. tt) (unreserved_left o running plan s t c.requires stops why.Memory) (unreserved_shorter running running t plan (end.Stop why.Memory))
 
 pub returns-in-JournalFull : goal.returns-in-JournalFull
 returns-in-JournalFull g c =
@@ -57,7 +57,7 @@ returns-in-JournalFull g c =
     leaves c.requires (λ stored none. none) o running 0 (none_quietly (unmoved s) stops.0.after refl refl refl) (end.Stop why.JournalFull) c.changes-in-JournalFull.result
     (unreserved_leaving o running plan s t c.requires stops.0 plain) (same_call running) plain (none_more running) tt (λ a. tt) c.leave-in-JournalFull.ensures c.changes-in-JournalFull.ensures refl tt
     (inr (subst (λ n. StopsReserving n share.JournalFull s t) all stops, c.requires.owes, unreserved_plan o running plan s t c.requires stops.0)) (λ so_far are. are)
-    (λ looks. absurd cc) (unreserved_left o running plan s t c.requires stops.0 why.JournalFull) (unreserved_shorter running running t plan (end.Stop why.JournalFull))
+    (λ looks. absurd cc) (λ has. tt) (unreserved_left o running plan s t c.requires stops.0 why.JournalFull) (unreserved_shorter running running t plan (end.Stop why.JournalFull))
 
 pub returns-in_default : goal.returns-in_default
 returns-in_default g c =

@@ -1,0 +1,49 @@
+-- What a call has counted at a stage, and which answers need a load of the region or a change.
+use Rattle.std.specs.Prelude.{◌≡◌, ◌≤◌, Bool, true, false, nat_lt, ◌||◌, min, not, ⊤}
+use Rattle.change_log.specs.declared.call.Answer.{Answer}
+use Rattle.loader.specs.Loads.{loads_of}
+use Rattle.opener.specs.declared.calls.Step.{Step}
+use Rattle.opener.specs.declared.calls.Step.TheVariants as step
+use Rattle.opener.specs.declared.work.End.TheVariants as end
+use Rattle.opener.specs.declared.work.Running.{Running}
+use Rattle.opener.specs.declared.work.Stage.{Stage}
+use Rattle.opener.specs.declared.work.Stage.TheVariants.{PeekChecksum, PeekSequence, LockShared, LockExclusive, Load, Size, Unlock, Hold, Release}
+use Rattle.opener.specs.declared.work.Work.{Work}
+use Rattle.opener.specs.declared.work.Work.TheVariants.{Runs}
+
+-- an answer that is given at this stage needs no load of the region
+abbrev pub answers_by_look : Stage → Bool
+answers_by_look (PeekSequence peek) = true
+answers_by_look Hold = true
+answers_by_look Release = true
+answers_by_look _ = false
+
+-- an answer that counts more than two loads, or a store
+abbrev pub is_fresh : Answer → Bool
+is_fresh a = nat_lt 2 a.loads || nat_lt 0 a.stores
+
+abbrev pub CountsNone : Running → Type 0
+CountsNone running = (running.loads ≡ 0) × (running.stores ≡ 0)
+
+-- what a call has counted at a stage, as far as it tells a look from a load of the region
+abbrev pub HasCounted : Stage → Running → Type 0
+HasCounted PeekChecksum running = CountsNone running
+HasCounted (PeekSequence peek) running = (running.loads ≡ 1) × (running.stores ≡ 0)
+HasCounted LockExclusive running = CountsNone running
+HasCounted Hold running = CountsNone running
+HasCounted Release running = CountsNone running
+HasCounted LockShared running = ⊤
+HasCounted (Load loading) running = min 3 (loads_of loading) ≤ running.loads
+HasCounted Size running = 2 ≤ running.loads
+HasCounted (Unlock (end.Stop why)) running = ⊤
+HasCounted _ running = 3 ≤ running.loads
+
+abbrev pub CountsSoFar : Work → Type 0
+CountsSoFar (Runs running at) = HasCounted at running
+CountsSoFar _ = ⊤
+
+-- So it counts on. An answer is fresh just where it isn't given after a look, nor by a hold or a release.
+abbrev pub CountedBy : Step → Stage → Work → Type 0
+CountedBy (step.Answered a) at new = is_fresh a ≡ not (answers_by_look at)
+CountedBy (step.Stopped why) at new = ⊤
+CountedBy _ at new = CountsSoFar new
