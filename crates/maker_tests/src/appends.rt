@@ -7,11 +7,13 @@ ghost use Rattle.region_words.specs.Local.{seat_state};
 ghost use Rattle.appender.specs.Appends.{appending};
 
 use crate::seen::seen_in;
-use appender::Appending;
+use appender::start_append;
 use change_log::{Act, Change};
 use expiring_map::{Bytes, Memory};
 use lock_rules::{LockKind, Tried};
-use region_words::{LocalRegion, LocalSeat, Next, Share, ShareStop, Side, Standing, Stored};
+use region_words::{
+    LocalRegion, LocalSeat, Next, RowMaker, Share, ShareStop, Side, Standing, Stored,
+};
 use std::alloc::Global;
 use std::test::Fail;
 use test_support::{BODY, META, opened};
@@ -49,10 +51,10 @@ fn put(alloc: Global, key: &[u8], value: &[u8]) -> Result<Change, Memory>
 }
 
 // The append of the value 01 64 for the key k.
-fn started(alloc: Global) -> Result<Appending, Memory>
+fn started(alloc: Global) -> Result<RowMaker, Memory>
     ensures { IfOk result (λ maker. maker ≡ appending KNOWN (record { maker = 1; act = Put (codes "k") (1 ∷ codes "d") 0 })) }
 {
-    Appending::start(alloc, &KNOWN, put(alloc, b"k", b"\x01d")?)
+    start_append(alloc, &KNOWN, put(alloc, b"k", b"\x01d")?)
 }
 
 #[test]
@@ -77,7 +79,7 @@ fn an_item_may_fill_the_file_to_its_end(rt: HostRuntime) -> Result<(), Fail> {
         tail: 0,
         ..KNOWN
     };
-    let maker = Appending::start(alloc, &full, put(alloc, b"b", &[7; 81])?)?;
+    let maker = start_append(alloc, &full, put(alloc, b"b", &[7; 81])?)?;
     assert_eq!(rt; (maker.events(), maker.room()), (24, 0));
     let first = Next::Store {
         side: Side::Data,
@@ -99,7 +101,7 @@ fn a_removal_ends_with_a_length_of_0(rt: HostRuntime) -> Result<(), Fail> {
         tail: 0,
         ..KNOWN
     };
-    let maker = Appending::start(alloc, &even, Change { maker: 1, act })?;
+    let maker = start_append(alloc, &even, Change { maker: 1, act })?;
     assert_eq!(rt; maker.events(), 4);
     let first = Next::Store {
         side: Side::Data,
@@ -111,7 +113,7 @@ fn a_removal_ends_with_a_length_of_0(rt: HostRuntime) -> Result<(), Fail> {
 }
 
 // An append to the store of the pair k, abc, whose lock opener 1 holds.
-fn appending(alloc: Global) -> Option<(Appending, LocalSeat)>
+fn appending(alloc: Global) -> Option<(RowMaker, LocalSeat)>
     ensures { IfSome result (λ r. (row : Row) × IsOwing row r.0.events (seat_state r.1)) }
 {
     let maker = started(alloc).ok()?;
@@ -127,7 +129,7 @@ fn appending(alloc: Global) -> Option<(Appending, LocalSeat)>
 }
 
 // Makes so many of the events, as far as there are any.
-fn make<S: Share>(maker: &mut Appending, share: &mut S, steps: u32) -> Result<Stored, ShareStop>
+fn make<S: Share>(maker: &mut RowMaker, share: &mut S, steps: u32) -> Result<Stored, ShareStop>
     requires { (row : Row) × IsOwing row maker.old.events (S.state share.old) }
     ensures { OnOk result ((row : Row) × IsOwing row maker.new.events (S.state share.new)) }
 {
@@ -141,7 +143,7 @@ fn make<S: Share>(maker: &mut Appending, share: &mut S, steps: u32) -> Result<St
     Ok(stored)
 }
 
-fn standing_of(maker: &Appending) -> Option<Standing> {
+fn standing_of(maker: &RowMaker) -> Option<Standing> {
     if maker.events() > 0 {
         return None;
     }

@@ -12,11 +12,13 @@ use crate::seen::seen_in;
 use change_log::{Act, Change};
 use expiring_map::{Bytes, ExpiringMap, Memory, Pair};
 use lock_rules::{LockKind, Tried};
-use region_words::{LocalRegion, LocalSeat, Next, Share, ShareStop, Side, Standing, Stored};
+use region_words::{
+    LocalRegion, LocalSeat, Next, RowMaker, Share, ShareStop, Side, Standing, Stored,
+};
 use std::alloc::Global;
 use std::test::Fail;
 use test_support::opened;
-use write_back::{RewriteStop, Rewriting};
+use write_back::{RewriteStop, start_rewrite};
 
 // What is known of a store in which nothing was stored yet.
 const FRESH: Standing = Standing {
@@ -44,14 +46,14 @@ const AFTER: Standing = Standing {
 };
 
 // A write-back of no pairs to a fresh store, for an item of 7 bytes.
-fn packing(alloc: Global) -> Result<Rewriting, RewriteStop>
+fn packing(alloc: Global) -> Result<RowMaker, RewriteStop>
     ensures { IfOk result (λ maker. maker ≡ rewriting FRESH fin.empty (record { maker = 1; act = Pack 100 }) 7) }
 {
     let change = Change {
         maker: 1,
         act: Act::Pack { now: 100 },
     };
-    Rewriting::start(alloc, &FRESH, &ExpiringMap::new(alloc), change, 7)
+    start_rewrite(alloc, &FRESH, &ExpiringMap::new(alloc), change, 7)
 }
 
 const FIRST_SEQUENCE: Next = Next::Store {
@@ -77,7 +79,7 @@ fn clearing(alloc: Global, standing: &Standing, need: u64) -> Result<(u32, u32, 
         maker: 1,
         act: Act::Clear,
     };
-    let maker = Rewriting::start(alloc, standing, &ExpiringMap::new(alloc), change, need)?;
+    let maker = start_rewrite(alloc, standing, &ExpiringMap::new(alloc), change, need)?;
     Ok((maker.events(), maker.room(), maker.next()))
 }
 
@@ -116,7 +118,7 @@ fn a_full_store_says_so_before_the_end_of_the_sequence(rt: HostRuntime) {
 }
 
 // A write-back of the key a with 4000 bytes, whose item takes 4004, to a store without pairs.
-fn packing_pair(alloc: Global, value: &[u8]) -> Result<Rewriting, Fail>
+fn packing_pair(alloc: Global, value: &[u8]) -> Result<RowMaker, Fail>
     requires { length value.now ≡ 4000 }
 {
     let mut map = ExpiringMap::new(alloc);
@@ -129,7 +131,7 @@ fn packing_pair(alloc: Global, value: &[u8]) -> Result<Rewriting, Fail>
         maker: 1,
         act: Act::Pack { now: 100 },
     };
-    Ok(Rewriting::start(alloc, &AFTER, &map, change, 85)?)
+    Ok(start_rewrite(alloc, &AFTER, &map, change, 85)?)
 }
 
 // 4 + 4008 + 85 bytes are needed, and room for eight pairs as long is kept: 36,873 bytes are wanted.
@@ -143,7 +145,7 @@ fn a_file_that_is_too_small_grows_first(rt: HostRuntime) -> Result<(), Fail> {
 }
 
 // A write-back to a fresh store whose lock opener 1 holds.
-fn rewriting(alloc: Global) -> Option<(Rewriting, LocalSeat)>
+fn rewriting(alloc: Global) -> Option<(RowMaker, LocalSeat)>
     ensures { IfSome result (λ r. (row : Row) × IsOwing row r.0.events (seat_state r.1)) }
 {
     let maker = packing(alloc).ok()?;
@@ -159,7 +161,7 @@ fn rewriting(alloc: Global) -> Option<(Rewriting, LocalSeat)>
 }
 
 // Makes so many of the events, as far as there are any.
-fn make<S: Share>(maker: &mut Rewriting, share: &mut S, steps: u32) -> Result<Stored, ShareStop>
+fn make<S: Share>(maker: &mut RowMaker, share: &mut S, steps: u32) -> Result<Stored, ShareStop>
     requires { (row : Row) × IsOwing row maker.old.events (S.state share.old) }
     ensures { OnOk result ((row : Row) × IsOwing row maker.new.events (S.state share.new)) }
 {
@@ -174,7 +176,7 @@ fn make<S: Share>(maker: &mut Rewriting, share: &mut S, steps: u32) -> Result<St
 }
 
 // What is known of the image, once all is stored.
-fn standing_of(maker: &Rewriting) -> Option<Standing> {
+fn standing_of(maker: &RowMaker) -> Option<Standing> {
     if maker.events() > 0 {
         return None;
     }

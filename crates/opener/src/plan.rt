@@ -8,28 +8,28 @@ ghost use Rattle.opener.specs.Plans.{CanWrite, IsSoundImage, IsSoundStanding, Is
 ghost use Rattle.opener.specs.declared.calls.Stop.TheVariants as why;
 
 use crate::calls::Stop;
-use appender::Appending;
+use appender::start_append;
 use change_log::{Act, Call, Change, apply};
 use expiring_map::{Bytes, ExpiringMap, Memory};
 use kv_pairs::item_size;
 use loader::Image;
-use region_words::Standing;
+use region_words::{RowMaker, Standing};
 use std::alloc::Global;
 use std::mem;
-use write_back::{RewriteStop, Rewriting};
+use write_back::{RewriteStop, start_rewrite};
 
 /// What a write is to store, and the map that it leaves.
 #[derive(Drop)]
 pub enum Plan {
     /// An item is appended.
     Append {
-        appending: Appending,
+        appending: RowMaker,
         map: ExpiringMap,
     },
     /// The pairs are written anew, and then an item is appended, where there is one.
     Rewrite {
-        rewriting: Rewriting,
-        then: Option<Appending>,
+        rewriting: RowMaker,
+        then: Option<RowMaker>,
         map: ExpiringMap,
     },
 }
@@ -148,7 +148,7 @@ fn plan_room(alloc: Global, change: Change, now: u32, need: u64, image: Image) -
         maker: change.maker,
         act: Act::Pack { now },
     };
-    let rewriting = Rewriting::start(alloc, &image.standing, &map, pack, need)?;
+    let rewriting = start_rewrite(alloc, &image.standing, &map, pack, need)?;
     let (appending, map) = append_to(alloc, &rewriting.standing(), map, change)?;
     Ok(Plan::Rewrite {
         rewriting,
@@ -168,7 +168,7 @@ fn plan_clear(alloc: Global, who: u32, standing: &Standing) -> Result<Plan, Stop
         maker: who,
         act: Act::Clear,
     };
-    let rewriting = Rewriting::start(alloc, standing, &map, change, 0)?;
+    let rewriting = start_rewrite(alloc, standing, &map, change, 0)?;
     Ok(Plan::Rewrite {
         rewriting,
         then: None,
@@ -182,7 +182,7 @@ fn append_to(
     standing: &Standing,
     map: ExpiringMap,
     change: Change,
-) -> Result<(Appending, ExpiringMap), Memory>
+) -> Result<(RowMaker, ExpiringMap), Memory>
     requires { CanAppend standing.now change }
     ensures { IfOk result (λ p. (p.0 ≡ appending standing.now change) × (p.1 ≡ applied map change.act)) }
 {
@@ -195,7 +195,7 @@ fn append_to(
             return Err(memory);
         }
     }
-    match Appending::start(alloc, standing, change) {
+    match start_append(alloc, standing, change) {
         Ok(appending) => Ok((appending, map)),
         Err(memory) => {
             mem::drop(map);

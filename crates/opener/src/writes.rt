@@ -10,14 +10,12 @@ use crate::calls::{Step, Stop};
 use crate::opener::Opener;
 use crate::plan::{Plan, plan_of};
 use crate::work::{End, Running, Stage};
-use appender::Appending;
 use change_log::Reply;
 use expiring_map::ExpiringMap;
 use loader::Image;
 use lock_rules::{LockKind, Tried};
-use region_words::{Share, ShareStop, Standing, Stored};
+use region_words::{RowMaker, Share, ShareStop, Standing, Stored};
 use std::mem;
-use write_back::Rewriting;
 
 impl Opener {
     pub(crate) fn lock_exclusive<S: Share>(&mut self, share: &mut S, running: Running) -> Step
@@ -73,8 +71,8 @@ impl Opener {
         &mut self,
         share: &mut S,
         running: Running,
-        rewriting: Rewriting,
-        then: Option<Appending>,
+        rewriting: RowMaker,
+        then: Option<RowMaker>,
         map: ExpiringMap,
     ) -> Step
         requires { Tied (running_as self.old running (Stage.Store (Plan.Rewrite rewriting then map))) (S.state share.old) }
@@ -112,7 +110,7 @@ impl Opener {
         &mut self,
         share: &mut S,
         running: Running,
-        appending: Appending,
+        appending: RowMaker,
         map: ExpiringMap,
     ) -> Step
         requires { Tied (running_as self.old running (Stage.Store (Plan.Append appending map))) (S.state share.old) }
@@ -175,7 +173,7 @@ impl Opener {
         &mut self,
         running: Running,
         standing: Standing,
-        then: Option<Appending>,
+        then: Option<RowMaker>,
         map: ExpiringMap,
         ended: u32,
     ) -> Step

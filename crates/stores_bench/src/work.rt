@@ -7,13 +7,13 @@ ghost use Rattle.stores_bench.specs.Start.{put_by_one};
 ghost use Rattle.stores_bench.specs.Pairs.{CanBeWritten};
 
 use crate::start::{Ready, locked_region};
-use appender::Appending;
+use appender::start_append;
 use change_log::{Act, Change};
 use expiring_map::{Bytes, ExpiringMap, Memory};
 use kv_pairs::item_size;
-use region_words::{LocalSeat, Share, ShareStop, Stored};
+use region_words::{LocalSeat, RowMaker, Share, ShareStop, Stored};
 use std::alloc::Global;
-use write_back::Rewriting;
+use write_back::start_rewrite;
 
 // The bytes of the header and of the payload to which an item is appended.
 const BEFORE: u64 = 8;
@@ -27,13 +27,14 @@ pub fn write_back(alloc: Global, map: &ExpiringMap) -> anyhow::Result<LocalSeat>
         maker: 1,
         act: Act::Pack { now: 0 },
     };
-    let mut row = Rewriting::start(alloc, &standing, map, change, 0)?;
+    let mut row = start_rewrite(alloc, &standing, map, change, 0)?;
     seat.reserve(row.events(), row.room())?;
-    finish_write_back(&mut row, &mut seat)?;
+    finish(&mut row, &mut seat)?;
     Ok(seat)
 }
 
-fn finish_write_back(row: &mut Rewriting, seat: &mut LocalSeat) -> Result<(), ShareStop>
+// Makes all the events of a row.
+fn finish(row: &mut RowMaker, seat: &mut LocalSeat) -> Result<(), ShareStop>
     requires some { row.old.events ≢ [] }
     requires owing { (r : Row) × IsOwing r row.old.events (seat_state seat.old) }
     ensures made { OnOk result (row.new.events ≡ []) }
@@ -50,9 +51,9 @@ pub fn append(alloc: Global, value: &[u8]) -> anyhow::Result<LocalSeat>
     let need = BEFORE + item_size(false, 1, value.len() as u32);
     let Ready { mut seat, standing } = locked_region(alloc, need as usize)?;
     let change = put_of(alloc, value)?;
-    let mut row = Appending::start(alloc, &standing, change)?;
+    let mut row = start_append(alloc, &standing, change)?;
     seat.reserve(row.events(), row.room())?;
-    finish_append(&mut row, &mut seat)?;
+    finish(&mut row, &mut seat)?;
     Ok(seat)
 }
 
@@ -70,13 +71,4 @@ fn put_of(alloc: Global, value: &[u8]) -> Result<Change, Memory>
             expiry: 0,
         },
     })
-}
-
-fn finish_append(row: &mut Appending, seat: &mut LocalSeat) -> Result<(), ShareStop>
-    requires some { row.old.events ≢ [] }
-    requires owing { (r : Row) × IsOwing r row.old.events (seat_state seat.old) }
-    ensures made { OnOk result (row.new.events ≡ []) }
-{
-    while let Stored::More = row.step(seat)? {}
-    Ok(())
 }

@@ -1,7 +1,7 @@
-//! The stores that write the pairs of a map anew, made one by one over any share.
+//! The stores that write the pairs of a map anew, worked out from what is known of the image.
 #![tactic(auto)]
 
 mod parts;
 mod rewriting;
 
-pub use rewriting::{RewriteStop, Rewriting};
+pub use rewriting::{RewriteStop, start_rewrite};

@@ -3,5 +3,5 @@ use Rattle.appender.specs.Appends.{CanAppend}
 use Rattle.maker_tests.proofs.AppendSample.{known, can_append}
 use Rattle.maker_tests.proofs.appends.started.Goals as goal
 
-pub start-requires : goal.start-requires
-start-requires c = subst (CanAppend known) (sym c.in_ok-put.ensures) can_append
+pub start_append-requires : goal.start_append-requires
+start_append-requires c = subst (CanAppend known) (sym c.in_ok-put.ensures) can_append

@@ -8,7 +8,7 @@ use Rattle.maker_tests.proofs.write_backs.clearing.Goals as goal
 abbrev clear : Change
 clear = record { maker = 1; act = Clear }
 
-pub start-requires : goal.start-requires
-start-requires c =
+pub start_rewrite-requires : goal.start_rewrite-requires
+start_rewrite-requires c =
     subst (λ m. CanWriteBack c.args.standing.now m clear c.args.need) (sym c.new.ensures)
     (can_write c.args.standing.now clear c.args.need tt c.requires.file c.requires.need)

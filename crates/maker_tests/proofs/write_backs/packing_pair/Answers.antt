@@ -5,8 +5,8 @@ use Rattle.write_back.specs.Rewrites.{CanWriteBack}
 use Rattle.maker_tests.proofs.WriteBackSample.{change, after, can_grow}
 use Rattle.maker_tests.proofs.write_backs.packing_pair.Goals as goal
 
-pub start-requires : goal.start-requires
-start-requires c =
+pub start_rewrite-requires : goal.start_rewrite-requires
+start_rewrite-requires c =
     let key = c.in_ok-copy_of.field-0 in
     let value = c.in_ok-copy_of-2.field-0 in
     let made : c.put.new.self ≡ fin.insert fin.empty (0x61 ∷ []) (value_until c.args.value.now 0) =

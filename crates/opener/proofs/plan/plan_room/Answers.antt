@@ -10,8 +10,8 @@ use Rattle.opener.specs.Plans.{fits_behind}
 use Rattle.opener.proofs.Planning.{can_pack, can_append_next, room_plan}
 use Rattle.opener.proofs.plan.plan_room.Goals as goal
 
-pub start-requires : goal.start-requires
-start-requires c =
+pub start_rewrite-requires : goal.start_rewrite-requires
+start_rewrite-requires c =
     can_pack c.args.image c.drop_expired.new.self c.args.change.maker c.args.now c.args.need c.drop_expired.ensures.after c.requires.image c.requires.most
 
 pub append_to-requires : goal.append_to-requires

@@ -1,5 +1,5 @@
 use Rattle.stores_bench.proofs.Going.{some_left}
-use Rattle.stores_bench.proofs.work.finish_append.Goals as goal
+use Rattle.stores_bench.proofs.work.finish.Goals as goal
 
 pub loop-preserved : goal.loop-preserved
 loop-preserved c =

@@ -3,7 +3,7 @@ use Rattle.std.specs.Int.{to_le_bytes, w32}
 use Rattle.region_words.specs.Standings.{words_of, tail_bytes}
 use Rattle.region_words.specs.Rows.{item_of}
 use Rattle.region_words.proofs.RowParts.{length-stores, length-words}
-use Rattle.appender.proofs.appending.Appending.start.Goals as goal
+use Rattle.appender.proofs.appending.start_append.Goals as goal
 
 pub new-requires-5 : goal.new-requires-5
 new-requires-5 c =
