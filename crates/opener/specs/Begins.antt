@@ -2,6 +2,7 @@
 use Rattle.std.specs.Prelude.{◌≡◌, ℕ, ◌^◌, ⊤, Bool, true, false, List, Option, Some, None, length, nat_lt, nat_le, ◌==◌, ◌||◌, ◌&&◌, if◌then◌else◌}
 use Rattle.change_log.specs.declared.call.Call.{Call}
 use Rattle.change_log.specs.declared.call.Call.TheVariants as call
+use Rattle.lock_rules.specs.declared.limits.TheConstants.{MOST_HOLDS}
 use Rattle.region_words.specs.Rows.{AreBytes}
 use Rattle.loader.specs.declared.loaded.Image.{Image}
 use Rattle.opener.specs.State.{OpenerState}
@@ -31,7 +32,7 @@ call_refusal (call.Get key) holds = key_refusal key
 call_refusal (call.Remove key) holds = key_refusal key
 call_refusal (call.Put key value seconds) holds = pair_refusal key value
 call_refusal call.Release holds = if holds == 0 then Some why.NotHeld else None
-call_refusal call.Hold holds = if nat_le 1000 holds then Some why.TooDeep else None
+call_refusal call.Hold holds = if nat_le MOST_HOLDS holds then Some why.TooDeep else None
 call_refusal _ holds = None
 
 -- key and value are bytes

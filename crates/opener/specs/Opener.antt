@@ -10,6 +10,7 @@ use Rattle.change_log.specs.declared.call.Answer.{Answer}
 use Rattle.meta_record.specs.Records.{checked}
 use Rattle.meta_record.specs.declared.record.RecordFault.TheVariants as fault
 use Rattle.meta_record.specs.declared.shown.Shown.TheVariants.{Whole}
+use Rattle.lock_rules.specs.declared.limits.TheConstants.{MOST_HOLDS, MOST_OPENERS}
 use Rattle.lock_rules.specs.declared.table.LockKind.{LockKind}
 use Rattle.lock_rules.specs.declared.table.LockKind.TheVariants.{Exclusive}
 use Rattle.lock_rules.specs.declared.table.Tried.TheVariants.{Busy}
@@ -109,7 +110,7 @@ IsAtStage o running (Reserve plan) = (lock_by o.holds running.taken ≡ Some Exc
     × AreOfCall o.who running.call running.now (commits_in plan)
 IsAtStage o running (Store plan) = (lock_by o.holds running.taken ≡ Some Exclusive) × IsSoundPlan o.who running plan
 IsAtStage o running (Unlock how) = (running.taken ≢ None) × MayEnd how
-IsAtStage o running Hold = (o.holds < 1000) × (running.taken ≡ None)
+IsAtStage o running Hold = (o.holds < MOST_HOLDS) × (running.taken ≡ None)
 IsAtStage o running Release = 0 < o.holds
 
 -- under a hold a call takes no lock itself
@@ -245,11 +246,11 @@ Owes o _ s = s.reserved s.who ≡ 0
 -- the share stands as the opener's last call left it; until its end the opener has its handler
 pub record Tied (o : OpenerState) (s : ShareState) : Type 0 where
   pub who : s.who ≡ o.who
-  pub maker : (1 ≤ o.who) × (o.who ≤ 64)
+  pub maker : (1 ≤ o.who) × (o.who ≤ MOST_OPENERS)
   pub ended : s.ended ≡ is_ended o.work
   pub handled : o.handled ≡ not (is_ended o.work)
   pub holds : s.holds ≡ lock_in o.holds o.work
-  pub deep : o.holds ≤ 1000
+  pub deep : o.holds ≤ MOST_HOLDS
   pub sound : OnImage o.image IsSoundImage
   pub at : IsAt o o.work
   pub owes : Owes o o.work s

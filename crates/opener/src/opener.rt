@@ -1,5 +1,6 @@
 // An opener: what it keeps between its calls, and its steps.
 ghost use Rattle.std.specs.Prelude.{◌≡◌, ℕ, ◌+◌, ◌*◌, ◌≤◌, None, Some, true, IfOk, IfErr, OnErr, OnOk};
+ghost use Rattle.lock_rules.specs.declared.limits.TheConstants.{MOST_OPENERS};
 ghost use Rattle.region_words.specs.Told.{OnTold, changes_told as changes_seen};
 ghost use Rattle.opener.specs.Calls.{IsBuilt};
 ghost use Rattle.opener.specs.Begins.{Begins, HasBytes, IsFirst, begun_at, refusal};
@@ -53,7 +54,7 @@ impl Opener {
     /// An opener of this number, which keeps no image and runs no call.
     pub fn new(alloc: Global, who: u32, handler: Box<dyn Handler + Send>) -> Opener
         requires least { 1 ≤ who }
-        requires most { who ≤ 64 }
+        requires most { who ≤ MOST_OPENERS }
         ensures { result ≡ record { who = who; handled = true; image = None; holds = 0; work = Work.Idle } }
     {
         Opener {

@@ -5,9 +5,7 @@ ghost use Rattle.opener.specs.Begins.{HasBytes, call_refusal, key_refusal, pair_
 
 use crate::calls::Refused;
 use change_log::Call;
-
-/// The greatest number of holds that stand at once.
-pub const MOST_HOLDS: u32 = 1000;
+use lock_rules::MOST_HOLDS;
 
 const LONGEST: usize = 1 << 27;
 
