@@ -7,4 +7,4 @@ mod stores;
 
 pub use seats::opened;
 pub use silent::Silent;
-pub use stores::{BODY, META, sizes};
+pub use stores::{BODY, META};

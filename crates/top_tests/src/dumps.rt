@@ -1,12 +1,11 @@
 // Runs of the command `dump` over stores in memory.
-use crate::plays::no_handlers;
-use expiring_map::{Bytes, Memory};
+use crate::runs::{dumped, ran_bare, shelf_with};
+use expiring_map::Memory;
 use meta_record::{
     WORD_CHECKSUM, WORD_FLAGS_LOW, WORD_LAST_CHECKSUM, WORD_LAST_SIZE, WORD_SEQUENCE, WORD_SIZE,
     WORD_VERSION, store_word,
 };
-use mmkv_top::{Status, run};
-use region_words::{MemShelf, MemSink, MemSource};
+use region_words::MemShelf;
 use std::alloc::Global;
 use std::test::Fail;
 
@@ -81,44 +80,9 @@ fn body_of(alloc: Global, header: u32, payload: &[u8]) -> Result<Vec<u8>, Memory
     Ok(body)
 }
 
-fn shelf_with(alloc: Global, body: Vec<u8>, meta: &[u8]) -> Result<MemShelf, Memory> {
-    let mut shelf = MemShelf::new(alloc);
-    shelf.add(Bytes::copy_of(alloc, b"s")?, body, meta.to_vec(alloc)?)?;
-    Ok(shelf)
-}
-
 // The shelf with the whole store alone.
 fn whole_shelf(alloc: Global) -> Result<MemShelf, Memory> {
     shelf_with(alloc, body_of(alloc, 11, PAYLOAD)?, &meta_of(WHOLE))
-}
-
-// The status of a run of these words, and what it wrote into a sink of this room.
-fn ran(
-    alloc: Global,
-    words: &[&[u8]],
-    shelf: &mut MemShelf,
-    room: usize,
-) -> Result<(u8, Bytes), Memory> {
-    let mut line = Vec::new(alloc);
-    for word in words {
-        line.push(Bytes::copy_of(alloc, word)?)?;
-    }
-    let mut out = MemSink::new(alloc, room, Vec::new(alloc))?;
-    let mut input = MemSource::new(Vec::new(alloc), Vec::new(alloc));
-    let Status(status) = run(
-        alloc,
-        &line,
-        shelf,
-        &mut input,
-        &mut out,
-        no_handlers(alloc),
-    );
-    Ok((status, Bytes::copy_of(alloc, out.written())?))
-}
-
-fn dumped(alloc: Global, body: Vec<u8>, meta: &[u8]) -> Result<(u8, Bytes), Memory> {
-    let mut shelf = shelf_with(alloc, body, meta)?;
-    ran(alloc, &[b"dir", b"dump", b"s"], &mut shelf, 4096)
 }
 
 #[test]
@@ -135,7 +99,7 @@ fn words_name_a_command_and_a_store(rt: HostRuntime) -> Result<(), Fail> {
         (&[b"dir", b"dump", b"s", b"s"], 4096, 2, b"usage\n"),
     ];
     for (words, room, status, text) in rows {
-        let (got, written) = ran(alloc, words, &mut whole_shelf(alloc)?, room)?;
+        let (got, written) = ran_bare(alloc, words, &mut whole_shelf(alloc)?, room)?;
         assert_eq!(rt; got, status, "after {words:?}");
         assert_eq!(rt; written.as_slice(), text);
     }
@@ -147,7 +111,7 @@ fn a_shelf_that_fails_or_refuses_gives_no_region(rt: HostRuntime) -> Result<(), 
     let alloc = rt.alloc();
     let mut failing = whole_shelf(alloc)?;
     failing.fail_at([0u64].to_vec(alloc)?);
-    let (status, text) = ran(alloc, &[b"dir", b"dump", b"s"], &mut failing, 4096)?;
+    let (status, text) = ran_bare(alloc, &[b"dir", b"dump", b"s"], &mut failing, 4096)?;
     assert_eq!(rt; status, 5);
     assert_eq!(rt; text.as_slice(), b"region fault\n".as_slice());
     let (status, text) = dumped(alloc, vec![in alloc; 0u8; 67_112_960]?, &meta_of(WHOLE))?;

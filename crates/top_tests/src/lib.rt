@@ -4,10 +4,10 @@
 #[cfg(test)]
 mod dumps;
 #[cfg(test)]
-mod openers;
-#[cfg(test)]
 mod plays;
 #[cfg(test)]
 mod random_stores;
+#[cfg(test)]
+mod runs;
 #[cfg(test)]
 mod second_reading;

@@ -1,15 +1,15 @@
 // Scripts of one opener at a region in memory, as the program plays them.
 ghost use Rattle.std.specs.Prelude.{◌≡◌, [], All, IfOk};
 
+use crate::runs::{ran, shelf_with};
 use bstr::ByteSlice;
-use expiring_map::{Bytes, Memory};
+use expiring_map::Memory;
 use handlers::{Handler, HandlerStock, Steady, Strategy};
 use meta_record::{
     WORD_CHECKSUM, WORD_LAST_CHECKSUM, WORD_LAST_SIZE, WORD_SEQUENCE, WORD_SIZE, WORD_VERSION,
     store_word,
 };
-use mmkv_top::{Status, run};
-use region_words::{MemShelf, MemSink, MemSource};
+use region_words::MemSource;
 use std::alloc::{AllocError, Global};
 use std::test::Fail;
 
@@ -43,11 +43,6 @@ fn one_handler(alloc: Global) -> Result<HandlerStock, AllocError> {
     ))
 }
 
-// A stock without handlers.
-pub(crate) fn no_handlers(alloc: Global) -> HandlerStock {
-    HandlerStock::new(Vec::new(alloc), Vec::new(alloc), Vec::new(alloc))
-}
-
 // The status and the text of `play` of a script, on a store of these files; the reads of these numbers fail.
 fn played_on(
     alloc: Global,
@@ -56,17 +51,17 @@ fn played_on(
     script: &[u8],
     fails: &[u64],
 ) -> Result<(u8, Vec<u8>), Memory> {
-    let mut shelf = MemShelf::new(alloc);
-    shelf.add(Bytes::copy_of(alloc, b"s")?, body, meta.to_vec(alloc)?)?;
-    let mut input = MemSource::new(script.to_vec(alloc)?, fails.to_vec(alloc)?);
-    let mut out = MemSink::new(alloc, 16_384, Vec::new(alloc))?;
-    let mut words = Vec::new(alloc);
-    for word in [b".".as_slice(), b"play", b"s"] {
-        words.push(Bytes::copy_of(alloc, word)?)?;
-    }
-    let stock = one_handler(alloc)?;
-    let Status(status) = run(alloc, &words, &mut shelf, &mut input, &mut out, stock);
-    Ok((status, out.written().to_vec(alloc)?))
+    let mut shelf = shelf_with(alloc, body, meta)?;
+    let input = MemSource::new(script.to_vec(alloc)?, fails.to_vec(alloc)?);
+    let words = [b".".as_slice(), b"play", b"s"];
+    ran(
+        alloc,
+        &words,
+        &mut shelf,
+        input,
+        one_handler(alloc)?,
+        16_384,
+    )
 }
 
 // The same on a fresh store.
@@ -75,7 +70,7 @@ fn played(alloc: Global, script: &[u8]) -> Result<(u8, Vec<u8>), Memory> {
 }
 
 // These pieces one after another.
-pub(crate) fn joined(alloc: Global, pieces: &[&[u8]]) -> Result<Vec<u8>, AllocError> {
+fn joined(alloc: Global, pieces: &[&[u8]]) -> Result<Vec<u8>, AllocError> {
     let mut all = Vec::new(alloc);
     for piece in pieces {
         all.extend_from_slice(piece)?;
@@ -228,7 +223,13 @@ fn an_item_that_fits_exactly_is_appended_and_one_byte_more_packs(
     let alloc = rt.alloc();
     let (status, text) = put_into_large(alloc, 1, 81)?;
     assert_eq!(rt; status, 0);
-    assert_eq!(rt; has(&text, b" now 100 begun 0 place 0 ended 1 "), true);
+    assert_eq!(rt;
+        has(
+            &text,
+            b" now 100 begun 0 place 0 ended 1 loads 1013 stores 24 locks 1 reply done\n"
+        ),
+        true
+    );
     assert_eq!(rt;
         has(
             &text,
@@ -238,7 +239,13 @@ fn an_item_that_fits_exactly_is_appended_and_one_byte_more_packs(
     );
     let (status, text) = put_into_large(alloc, 1, 82)?;
     assert_eq!(rt; status, 0);
-    assert_eq!(rt; has(&text, b" now 100 begun 0 place 1 ended 2 "), true);
+    assert_eq!(rt;
+        has(
+            &text,
+            b" now 100 begun 0 place 1 ended 2 loads 1013 stores 1033 locks 1 reply done\n"
+        ),
+        true
+    );
     assert_eq!(rt;
         has(&text, b"change 0 1 pack 100\nchange 1 1 put 6b "),
         true

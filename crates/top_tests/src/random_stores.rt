@@ -1,15 +1,12 @@
 // Random stores, dumped by the top call and read a second time.
 ghost use Rattle.std.specs.Prelude.{◌<◌, ◌≤◌};
 
-use crate::plays::no_handlers;
+use crate::runs::dumped;
 use crate::second_reading::dump_of;
-use expiring_map::Bytes;
 use meta_record::{
     WORD_CHECKSUM, WORD_FLAGS_LOW, WORD_LAST_CHECKSUM, WORD_LAST_SIZE, WORD_SEQUENCE, WORD_SIZE,
     WORD_VERSION, store_word,
 };
-use mmkv_top::{Status, run};
-use region_words::{MemShelf, MemSink, MemSource};
 use std::alloc::Global;
 use std::test::Fail;
 
@@ -109,26 +106,6 @@ fn store(alloc: Global, dice: &mut Dice) -> Result<(Vec<u8>, [u8; 112]), Fail> {
         .to_vec(alloc)?;
     body.extend_from_slice(&payload)?;
     Ok((body, meta))
-}
-
-fn dumped(alloc: Global, body: Vec<u8>, meta: &[u8]) -> Result<(u8, Bytes), Fail> {
-    let mut shelf = MemShelf::new(alloc);
-    shelf.add(Bytes::copy_of(alloc, b"s")?, body, meta.to_vec(alloc)?)?;
-    let mut line = Vec::new(alloc);
-    for word in [b".".as_slice(), b"dump", b"s"] {
-        line.push(Bytes::copy_of(alloc, word)?)?;
-    }
-    let mut out = MemSink::new(alloc, 8192, Vec::new(alloc))?;
-    let mut input = MemSource::new(Vec::new(alloc), Vec::new(alloc));
-    let Status(status) = run(
-        alloc,
-        &line,
-        &mut shelf,
-        &mut input,
-        &mut out,
-        no_handlers(alloc),
-    );
-    Ok((status, Bytes::copy_of(alloc, out.written())?))
 }
 
 #[test]

@@ -1,5 +1,5 @@
 // Calls of two openers, in turns.
-use crate::worlds::{finish, fresh, put, sizes_of};
+use crate::worlds::{finish, fresh, put, sizes};
 use std::alloc::Global;
 use world::{Moved, World};
 
@@ -43,5 +43,5 @@ fn six_hundred_puts_in_turns_fit_in_one_page(rt: HostRuntime) {
     let mut world = fresh(alloc, 2).expect(&rt, "ample memory");
     assert_eq!(rt; all_are_answered(alloc, &mut world, 600), true);
     assert_eq!(rt; world.answers().len(), 600);
-    assert_eq!(rt; sizes_of(alloc, &world), Some((1552, 602, 4096)));
+    assert_eq!(rt; sizes(alloc, &world), Some((1552, 602, 4096)));
 }

@@ -7,7 +7,7 @@ use expiring_map::{Bytes, Memory};
 use handlers::{Handler, Steady, Strategy};
 use region_words::{LocalRegion, shown};
 use std::alloc::{AllocError, Global};
-use test_support::{BODY, META, sizes};
+use test_support::{BODY, META};
 use world::{Moved, World};
 
 // More steps than a call on a small store has.
@@ -89,8 +89,15 @@ pub(crate) fn numbers(world: &World, place: usize) -> Option<(u32, u32, u32, u32
 }
 
 // The header, which is the payload's size, the number of changes, and the bytes of the data file.
-pub(crate) fn sizes_of(alloc: Global, world: &World) -> Option<(u32, usize, usize)> {
-    let (header, size) = sizes(world.region())?;
-    let changes = world.region().changes(alloc).ok()?;
-    Some((header, changes.as_slice().len(), size))
+pub(crate) fn sizes(alloc: Global, world: &World) -> Option<(u32, usize, usize)> {
+    let region = world.region();
+    let changes = region.changes(alloc).ok()?;
+    match region.data_bytes() {
+        [a, b, c, d, rest @ ..] => Some((
+            u32::from_le_bytes([*a, *b, *c, *d]),
+            changes.as_slice().len(),
+            4 + rest.len(),
+        )),
+        _ => None,
+    }
 }
