@@ -181,7 +181,7 @@ module _ (who : ℕ) (s t : Seated) (seat : t.who ≡ who) (steady : s.region.fa
       (runs_on c r own n.loads n.stores n.locks o'.work n.few n.stores_are n.locks_are follows keeps.0 n.counts, keeps.1 ∙ same)
   call_came o o' c at r own held step.Again one same is follows n keeps cause answer = let t : true ≡ false = cause.0.takes_turns in absurd cc
   call_came o o' c at r own held (step.Blocked holder) one same is follows n keeps cause answer =
-      (runs_on c r own n.loads n.stores n.locks o'.work n.few n.stores_are n.locks_are follows keeps.0 n.counts, keeps.1 ∙ same, (cause.0, subst (λ w. IsLeastAgainst (locks_after t.region.past) w cause.0 holder) seat cause.1.1))
+      (runs_on c r own n.loads n.stores n.locks o'.work n.few n.stores_are n.locks_are follows keeps.0 n.counts, keeps.1 ∙ same, (cause.0, subst (λ w. IsLeastAgainst (locks_after t.region.past) w cause.0 holder) seat cause.2.1))
   call_came o o' c at r own held (step.Answered a) one same is follows n keeps cause answer =
       (keeps.1, keeps.2 ∙ ap (λ x. holds_after x o.holds) follows.call ∙ ap (holds_after r.call) same, answered a o.who who c r own t.region.start t.region.past n.loads n.stores n.locks one n.few n.stores_are n.locks_are n.counts follows keeps.0 answer)
   call_came o o' c at r own held (step.Stopped why) one same is follows n keeps cause answer = stopped why keeps cause

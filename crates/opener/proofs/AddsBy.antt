@@ -1,37 +1,25 @@
 -- What a step adds that makes an event of a row, and then goes on or leaves.
-use Rattle.std.proofs.Common.{◌≡◌, ℕ, ◌+◌, List, [], ◌∷◌, ◌++◌, sym, ◌∙◌, subst, ap, append-nil, append_assoc}
-use Rattle.std.specs.Prelude.{Option, Some, None, ◌-◌}
-use Rattle.expiring_map.specs.Map.{Map}
+use Rattle.std.proofs.Common.{◌≡◌, ℕ, List, ◌∷◌, ◌++◌, sym, ◌∙◌, subst, ap, append_assoc}
+use Rattle.std.specs.Prelude.{Some, ◌-◌}
 use Rattle.change_log.specs.Settled.{AreOfCall}
 use Rattle.change_log.specs.declared.call.Reply.TheVariants.{Done}
 use Rattle.change_log.specs.declared.change.Change.{Change}
-use Rattle.lock_rules.specs.declared.table.LockKind.{LockKind}
 use Rattle.region_words.specs.Past.{change_of}
-use Rattle.region_words.specs.Making.{Making, next_of}
-use Rattle.region_words.specs.Share.{ShareState, Goes, loaded, locked, stored}
+use Rattle.region_words.specs.Making.{next_of}
+use Rattle.region_words.specs.Share.{ShareState, Goes, stored}
 use Rattle.region_words.specs.declared.event.What.{What}
-use Rattle.region_words.specs.declared.standing.Standing.{Standing}
-use Rattle.meta_record.specs.declared.shown.Shown.{Shown}
-use Rattle.meta_record.specs.declared.shown.Shown.TheVariants as seen
 use Rattle.loader.specs.declared.loaded.Image.{Image}
-use Rattle.loader.specs.declared.loaded.Loaded.{Loaded}
 use Rattle.opener.specs.State.{OpenerState}
-use Rattle.opener.specs.Adds.{Adds, AreMadeAt}
-use Rattle.opener.specs.Calls.{IsPlain}
+use Rattle.opener.specs.Adds.{Adds}
 use Rattle.opener.specs.Continues.{SameCall}
-use Rattle.opener.specs.Counted.{counted, with_stored}
-use Rattle.opener.specs.Ends.{GoesOn, IsDone, IsLoaded, IsLoadedBy, Leaves, IsReady, Rewritten, Written}
-use Rattle.opener.specs.Writes.{commits_of, commits_in}
+use Rattle.opener.specs.Counted.{with_stored}
+use Rattle.opener.specs.Ends.{GoesOn, Written}
+use Rattle.opener.specs.Writes.{commits_in}
 use Rattle.opener.specs.declared.calls.Step.{Step}
 use Rattle.opener.specs.declared.plan.Plan.{Plan}
-use Rattle.opener.specs.declared.plan.Plan.TheVariants.{Append, Rewrite}
 use Rattle.opener.specs.declared.work.Running.{Running}
-use Rattle.opener.specs.declared.calls.Stop.{Stop}
-use Rattle.opener.specs.declared.calls.Stop.TheVariants as why
-use Rattle.opener.specs.declared.work.End.{End}
 use Rattle.opener.specs.declared.work.End.TheVariants as end
-use Rattle.opener.specs.declared.work.Stage.{Stage}
-use Rattle.opener.specs.declared.work.Stage.TheVariants.{Store, Unlock}
+use Rattle.opener.specs.declared.work.Stage.TheVariants.{Store}
 use Rattle.opener.proofs.Adding.{event_more, going_made, going_counts, leaves_made, leaves_counts, same_made}
 use Rattle.opener.proofs.Added.{adds_event}
 use Rattle.opener.proofs.Same.{stored_same}

@@ -5,11 +5,11 @@ use Rattle.std.proofs.lemmas.Bool.Decides.{nat_tests}
 use Rattle.change_log.specs.declared.call.Call.{Call}
 use Rattle.change_log.specs.declared.call.Call.TheVariants as call
 use Rattle.lock_rules.specs.declared.table.LockKind.TheVariants.{Exclusive}
-use Rattle.region_words.specs.Region.{Region, IsAccepted}
+use Rattle.region_words.specs.Region.{Region}
 use Rattle.region_words.specs.Past.{region_after, changes_of}
 use Rattle.region_words.specs.Rows.{AreBytes, IsKey}
-use Rattle.region_words.specs.Told.{OnTold, changes_told}
-use Rattle.region_words.specs.Share.{ShareState, Agrees, IsSound}
+use Rattle.region_words.specs.Told.{changes_told}
+use Rattle.region_words.specs.Share.{ShareState}
 use Rattle.region_words.specs.declared.event.Event.{Event}
 use Rattle.region_words.proofs.Telling.{told_and}
 use Rattle.loader.specs.declared.loaded.Image.{Image}

@@ -1,5 +1,5 @@
 -- What a call counts tells which answers need a load of the region or a change.
-use Rattle.std.proofs.Common.{◌≡◌, ◌≤◌, ◌+◌, ℕ, Bool, true, false, arith, refl, sym, ◌∙◌, subst, ap}
+use Rattle.std.proofs.Common.{◌≡◌, ◌≤◌, ℕ, Bool, true, false, arith, refl, sym, ◌∙◌, subst, ap}
 use Rattle.std.specs.Prelude.{Option, Some, None, nat_lt, not, ◌==◌, ◌&&◌, ◌||◌, ⊤}
 use Rattle.std.proofs.lemmas.Bool.Decides.{nat_tests}
 use Rattle.change_log.specs.declared.call.Call.{Call}
@@ -14,16 +14,14 @@ use Rattle.opener.specs.State.{OpenerState}
 use Rattle.opener.specs.Begins.{IsFirst, IsFirstPlain, begun_at}
 use Rattle.opener.specs.Calls.{AfterStop, is_write}
 use Rattle.opener.specs.Counted.{with_stored}
-use Rattle.opener.specs.Ends.{Finishes, GoesOn, IsReady, IsReadyBy, Leaves, LeavesBy, Notices, Reads, ReadsBy, answer_of, lock_by}
-use Rattle.opener.specs.Fresh.{CountedBy, CountsNone, CountsSoFar, HasCounted, answers_by_look, is_fresh}
+use Rattle.opener.specs.Ends.{Finishes, GoesOn, IsReady, IsReadyBy, Leaves, LeavesBy, Notices, Reads, ReadsBy, lock_by}
+use Rattle.opener.specs.Fresh.{CountedBy, CountsNone, CountsSoFar, HasCounted, answers_by_look}
 use Rattle.opener.specs.declared.calls.Step.{Step}
-use Rattle.opener.specs.declared.calls.Step.TheVariants as step
 use Rattle.opener.specs.declared.work.Running.{Running}
 use Rattle.opener.specs.declared.work.End.{End}
 use Rattle.opener.specs.declared.work.End.TheVariants as end
 use Rattle.opener.specs.declared.work.Stage.{Stage}
 use Rattle.opener.specs.declared.work.Stage.TheVariants.{Size, Unlock}
-use Rattle.opener.specs.declared.work.Work.TheVariants.{Runs}
 
 over_two : (n : ℕ) → 3 ≤ n → nat_lt 2 n ≡ true
 over_two n many = grind (arith, nat_tests)

@@ -1,13 +1,11 @@
 -- A call ends once its lock is given up.
-use Rattle.std.proofs.Common.{◌≡◌, ◌≢◌, ℕ, zero, suc, ◌<◌, arith, [], ◌∷◌, length, refl, sym, ◌∙◌, subst, ap, inl, inr, lit≤, append-nil}
+use Rattle.std.proofs.Common.{◌≡◌, ◌≢◌, ℕ, [], ◌∷◌, length, refl, sym, ◌∙◌, subst, ap, inl, inr, lit≤, append-nil}
 use Rattle.std.specs.Prelude.{None, ⊤}
 use Rattle.region_words.specs.Past.{changes_of}
 use Rattle.region_words.specs.Told.{OnTold, changes_told}
-use Rattle.region_words.specs.Share.{ShareState, Goes, Stops, unlocked_by}
+use Rattle.region_words.specs.Share.{ShareState, Goes, unlocked_by}
 use Rattle.region_words.specs.Local.{event_of}
 use Rattle.region_words.specs.declared.event.What.TheVariants.{Unlock}
-use Rattle.region_words.specs.declared.stops.ShareStop.{ShareStop}
-use Rattle.region_words.specs.declared.stops.ShareStop.TheVariants as stops
 use Rattle.opener.specs.State.{OpenerState}
 use Rattle.opener.specs.Calls.{is_write}
 use Rattle.opener.specs.Ends.{Finishes, answer_of, lock_by}

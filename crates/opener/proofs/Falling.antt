@@ -3,19 +3,15 @@ use Rattle.std.proofs.Common.{◌≡◌, ℕ, ◌+◌, ◌*◌, ◌/◌, ◌<◌
 use Rattle.std.specs.Prelude.{◌-◌, Option, Some, None, nat_lt, ◌==◌, ◌&&◌}
 use Rattle.std.proofs.lemmas.List.{length-replicate}
 use Rattle.std.proofs.lemmas.Bool.Decides.{nat_tests}
-use Rattle.expiring_map.specs.Map.{Map}
 use Rattle.change_log.specs.declared.call.Call.{Call}
 use Rattle.change_log.specs.declared.call.Call.TheVariants as call
 use Rattle.change_log.specs.declared.call.Reply.TheVariants.{Done}
 use Rattle.lock_rules.specs.declared.table.LockKind.{LockKind}
-use Rattle.meta_record.specs.declared.shown.Shown.{Shown}
-use Rattle.meta_record.specs.declared.shown.Shown.TheVariants as shown
 use Rattle.region_words.specs.Region.{Region, file_size}
 use Rattle.region_words.specs.Past.{region_after, region_step}
 use Rattle.region_words.specs.Told.{History, OnTold, OnBoth}
 use Rattle.region_words.specs.Share.{ShareState, Goes, Grows, loaded}
-use Rattle.region_words.specs.Making.{Making, MakesFirst}
-use Rattle.region_words.specs.declared.standing.Standing.{Standing}
+use Rattle.region_words.specs.Making.{MakesFirst}
 use Rattle.region_words.specs.declared.event.What.{What}
 use Rattle.region_words.specs.declared.event.What.TheVariants.{Grow}
 use Rattle.region_words.specs.declared.stops.ShareStop.{ShareStop}
@@ -24,17 +20,15 @@ use Rattle.region_words.proofs.Telling.{told_map, grows_to}
 use Rattle.loader.specs.FirstWords.{size_in}
 use Rattle.loader.specs.Loads.{Load, loads_of}
 use Rattle.loader.specs.declared.loaded.Image.{Image}
-use Rattle.loader.specs.declared.loaded.Loaded.{Loaded}
 use Rattle.opener.specs.State.{OpenerState}
 use Rattle.opener.specs.Begins.{IsFirst, IsFirstPlain}
 use Rattle.opener.specs.Bound.{Falls, Shortens, grown_by, next_growth, size_met, size_planned, steps_at, steps_left, stores_left}
 use Rattle.opener.specs.Calls.{AfterStop, is_write}
-use Rattle.opener.specs.Ends.{Finishes, GoesOn, IsDone, IsLoaded, IsLoadedBy, IsReady, IsReadyBy, Leaves, LeavesBy, Notices, OnImage, Reads, ReadsBy, Rewritten, Waits, Written, lock_by, sized_image}
+use Rattle.opener.specs.Ends.{Finishes, GoesOn, IsDone, IsReady, IsReadyBy, Leaves, LeavesBy, Notices, OnImage, Reads, ReadsBy, Waits, Written, lock_by, sized_image}
 use Rattle.opener.specs.Opener.{ImageIs, IsImage, Tied, running_as}
 use Rattle.opener.specs.Plans.{IsPlanOf, IsSoundImage, events_in}
 use Rattle.opener.specs.Writes.{first_events}
 use Rattle.opener.specs.declared.calls.Step.{Step}
-use Rattle.opener.specs.declared.calls.Stop.TheVariants as why
 use Rattle.opener.specs.declared.plan.Plan.{Plan}
 use Rattle.opener.specs.declared.plan.Plan.TheVariants.{Append, Rewrite}
 use Rattle.opener.specs.declared.work.End.{End}

@@ -1,6 +1,6 @@
 -- What an opener knows after a load.
-use Rattle.std.proofs.Common.{◌+◌, ◌≡◌, ◌≢◌, ◌≤◌, ℕ, arith, true, List, [], length, refl, sym, ◌∙◌, subst, ap, take_all}
-use Rattle.std.specs.Prelude.{Option, Some, None, ⊤, is_some, unwrap_or, option_and_then}
+use Rattle.std.proofs.Common.{◌+◌, ◌≡◌, ◌≢◌, ◌≤◌, ℕ, arith, List, [], length, refl, sym, ◌∙◌, subst, ap, take_all}
+use Rattle.std.specs.Prelude.{Option, Some, None, ⊤, unwrap_or, option_and_then}
 use Rattle.std.specs.FinMap as fin
 use Rattle.expiring_map.specs.Map.{Map}
 use Rattle.change_log.specs.Acts.{replay}

@@ -1,8 +1,6 @@
 -- A write has taken its lock.
 use Rattle.std.proofs.Common.{◌≡◌, arith, false, List, [], ◌∷◌, refl, sym, ◌∙◌, subst}
 use Rattle.std.specs.Prelude.{Option, Some, None, ⊤}
-use Rattle.change_log.specs.declared.call.Call.{Call}
-use Rattle.change_log.specs.declared.call.Call.TheVariants as call
 use Rattle.lock_rules.specs.declared.table.LockKind.{LockKind}
 use Rattle.lock_rules.specs.declared.table.LockKind.TheVariants.{Exclusive}
 use Rattle.lock_rules.specs.declared.table.Tried.TheVariants.{Taken}

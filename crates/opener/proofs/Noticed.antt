@@ -28,11 +28,10 @@ use Rattle.opener.specs.State.{OpenerState}
 use Rattle.opener.specs.Steps.{FindsCurrent}
 use Rattle.opener.specs.Calls.{IsPlain, is_write}
 use Rattle.opener.specs.Ends.{Reads, ReadsBy, is_current, lock_by}
-use Rattle.opener.specs.Opener.{Facts, Tied, ImageIs, IsShown, LooksUnder, WasShown, WasPeeked, running_as, stop_found}
+use Rattle.opener.specs.Opener.{Facts, Tied, ImageIs, IsShown, LooksUnder, WasShown, WasPeeked, running_as}
 use Rattle.opener.specs.declared.work.Running.{Running}
 use Rattle.opener.specs.declared.work.Stage.{Stage}
 use Rattle.opener.specs.declared.work.Stage.TheVariants.{PeekSequence, LockShared, Load}
-use Rattle.opener.specs.declared.work.Work.TheVariants.{Runs}
 use Rattle.opener.proofs.Carry.{none_reserved, tied_after, told_call, more_changes}
 use Rattle.opener.proofs.Leaves.{Leaving}
 use Rattle.opener.proofs.Ready.{ReadyWith}

@@ -2,14 +2,12 @@
 use Rattle.std.proofs.Common.{◌≡◌, ◌≢◌, ℕ, ◌≤◌, arith, Bool, true, false, cond, List, [], ◌∷◌, ◌++◌, length, refl, sym, ◌∙◌, subst, ap, inl, inr, append-nil, append_assoc, length-append}
 use Rattle.std.specs.Prelude.{Option, Some, None, ◌==◌, ◌&&◌}
 use Rattle.std.proofs.lemmas.List.Elements.{All-nil, All-cons, All-append, All-push, All-weaker}
-use Rattle.change_log.specs.Acts.{act_of}
 use Rattle.change_log.specs.EachCaller.{LegalFor}
 use Rattle.change_log.specs.History.{IsPlaced, IsMade}
-use Rattle.change_log.specs.Settled.{NoneBy, AreEndedBy, AreOfAct, AreOfCall, AreBegun}
+use Rattle.change_log.specs.Settled.{NoneBy, AreEndedBy, AreOfCall, AreBegun}
 use Rattle.change_log.specs.declared.call.Answer.{Answer}
 use Rattle.change_log.specs.declared.call.Call.{Call as Asked}
 use Rattle.change_log.specs.declared.call.Call.TheVariants as call
-use Rattle.change_log.specs.declared.change.Act.{Act}
 use Rattle.change_log.specs.declared.change.Change.{Change}
 use Rattle.change_log.proofs.Settled.{cut_is_legal, settled_first, settled_is_legal, stays_settled}
 use Rattle.loader.specs.declared.loaded.Image.{Image}
@@ -36,7 +34,7 @@ use Rattle.opener.specs.Calls.{is_write}
 use Rattle.opener.specs.Ends.{lock_by}
 use Rattle.opener.specs.Opener.{IsAnswer, IsAnswerOf, IsAt, KeepsCall, Knows, MakesOne, OnAnswer, RunsOn, Tied, lock_in, running_as}
 use Rattle.opener.specs.Settles.{AreEarlier, AreSettled, BeginsSettled, IsCutOff, IsLegalSoFar, IsSettledBy, IsSettledFirst, IsSettledSoFar, Settles, StaysSettled, answers_by}
-use Rattle.opener.specs.Writes.{commits_in, commits_of}
+use Rattle.opener.specs.Writes.{commits_of}
 use Rattle.opener.specs.declared.calls.Step.{Step}
 use Rattle.opener.specs.declared.calls.Step.TheVariants as step
 use Rattle.opener.specs.declared.calls.Stop.TheVariants as why

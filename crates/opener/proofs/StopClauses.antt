@@ -1,9 +1,9 @@
 -- What a stage's clauses say where its call on the share was not answered.
-use Rattle.std.proofs.Common.{◌≡◌, ℕ, refl, sym, ◌∙◌, subst, ap, inl, inr, lit≤}
+use Rattle.std.proofs.Common.{◌≡◌, refl, sym, ◌∙◌, subst, ap, inl, inr, lit≤}
 use Rattle.std.specs.Prelude.{Option, Some, None}
 use Rattle.change_log.specs.declared.call.Answer.{Answer}
 use Rattle.lock_rules.specs.declared.table.LockKind.{LockKind}
-use Rattle.region_words.specs.Share.{ShareState, Fails, Stops, StopsTrying, StopsReserving, failed, turned_away, unmoved}
+use Rattle.region_words.specs.Share.{ShareState, Fails, Stops, StopsTrying, failed, turned_away, unmoved}
 use Rattle.region_words.specs.declared.stops.ShareStop.{ShareStop}
 use Rattle.region_words.specs.declared.stops.ShareStop.TheVariants.{Failed, Turn, Memory, JournalFull}
 use Rattle.opener.specs.State.{OpenerState}
@@ -17,7 +17,6 @@ use Rattle.opener.specs.declared.calls.Stop.{Stop}
 use Rattle.opener.specs.declared.calls.Stop.TheVariants as why
 use Rattle.opener.specs.declared.work.Running.{Running}
 use Rattle.opener.specs.declared.work.Stage.{Stage}
-use Rattle.opener.specs.declared.work.Stage.TheVariants.{Reserve}
 use Rattle.opener.specs.declared.work.Work.{Work}
 use Rattle.opener.specs.declared.work.Work.TheVariants.{Runs}
 

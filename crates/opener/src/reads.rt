@@ -1,12 +1,8 @@
 // The stages of a read and of a hold, each with one call on the share.
-ghost use Rattle.std.specs.Prelude.{◌≡◌, ◌<◌, ◌≤◌, IfOk, OnOk};
-ghost use Rattle.region_words.specs.Told.{OnTold};
+ghost use Rattle.std.specs.Prelude.{◌≡◌, ◌<◌, ◌≤◌};
 ghost use Rattle.opener.specs.Calls.{is_write};
 ghost use Rattle.opener.specs.Ends.{Replies, answer_of, stop_of};
-ghost use Rattle.opener.specs.declared.work.Work.TheVariants.{Runs};
-ghost use Rattle.opener.specs.Adds.{Adds};
-ghost use Rattle.opener.specs.Opener.{Tied, running_as, HasCause, IsAnswer, KeepsCall, OnAnswer, MakesOne};
-ghost use Rattle.opener.specs.Bound.{Falls};
+ghost use Rattle.opener.specs.Opener.{Tied, running_as};
 ghost use Rattle.opener.specs.Steps.{Steps};
 
 use crate::calls::{Step, Stop};

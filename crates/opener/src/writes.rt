@@ -1,10 +1,6 @@
 // The stages of a write, each with one call on the share.
-ghost use Rattle.region_words.specs.Told.{OnTold};
-ghost use Rattle.opener.specs.Adds.{Adds};
-ghost use Rattle.opener.specs.Opener.{Tied, running_as, HasCause, IsAnswer, KeepsCall, OnAnswer, MakesOne};
-ghost use Rattle.opener.specs.Bound.{Falls};
+ghost use Rattle.opener.specs.Opener.{Tied, running_as};
 ghost use Rattle.opener.specs.Steps.{Steps};
-ghost use Rattle.opener.specs.declared.work.Work.TheVariants.{Runs};
 
 use crate::calls::{Step, Stop};
 use crate::opener::Opener;
