@@ -3,7 +3,6 @@ pub mod Showing
 pub mod Fronts
 pub mod Telling
 pub mod Taken
-pub mod Written
 pub mod Finished
 pub mod RecordAnswered
 pub mod GoingOn
