@@ -6,6 +6,7 @@ built, the place of its log is named, and the status is 70, which no command of 
 """
 import os
 import re
+import shutil
 import subprocess
 import sys
 import time
@@ -62,6 +63,9 @@ def say(text, end="\n"):
 
 def build(program):
     """Builds all, and returns the status."""
+    if not shutil.which("rt"):
+        say("rt, the command of the toolchain, is not on the path")
+        return FAILED
     below = crates()
     needed = stands_on(program, below)
     made = TOP / "crates" / program / "out" / program
@@ -98,4 +102,8 @@ def build(program):
 
 
 if __name__ == "__main__":
-    sys.exit(build(*sys.argv[1:]))
+    try:
+        sys.exit(build(*sys.argv[1:]))
+    except KeyboardInterrupt:
+        # (the builds under way are of this terminal, and end with it)
+        sys.exit(FAILED)
