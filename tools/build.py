@@ -36,6 +36,18 @@ def stands_on(program, below):
     return found
 
 
+def heights(needed, below):
+    """How many crates stand on each, one upon the other, at the most: what stands highest up waits for it longest."""
+    found = {}
+
+    def height(name):
+        if name not in found:
+            found[name] = max((1 + height(it) for it in needed if name in below[it]), default=0)
+        return found[name]
+
+    return {name: height(name) for name in needed}
+
+
 class Build:
     """One crate that is being built."""
 
@@ -68,17 +80,20 @@ def build(program):
         return FAILED
     below = crates()
     needed = stands_on(program, below)
+    height = heights(needed, below)
     made = TOP / "crates" / program / "out" / program
     processors = len(os.sched_getaffinity(0))
     began, built, running = time.time(), set(), []
     made.unlink(missing_ok=True)
     say(f"building {len(needed)} crates with {processors} processors; the first time takes a while")
     while built != needed:
-        waiting = [it for it in sorted(needed - built) if it not in {b.name for b in running}]
-        ready = [it for it in waiting if set(below[it]) <= built]
+        under_way = {it.name for it in running}
+        ready = [it for it in needed - built - under_way if set(below[it]) <= built]
+        ready.sort(key=lambda it: (-height[it], it))
         for name in ready[: max(processors - len(running), 0)]:
-            jobs = max(processors // max(len(ready) + len(running), 1), 1)
-            running.append(Build(name, program, jobs))
+            # (the crate for which most others wait may use each processor, and those beside it one)
+            is_first = all(height[it] <= height[name] for it in under_way | set(ready))
+            running.append(Build(name, program, processors if is_first else 1))
         if sys.stderr.isatty():
             say(f"{len(built)} of {len(needed)} built; " + ", ".join(it.part() for it in running), end="")
         time.sleep(0.2)
