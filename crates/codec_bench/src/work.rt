@@ -1,15 +1,13 @@
 // The measured work, each so many times over.
-ghost use Rattle.std.specs.Prelude.{◌≤◌, ◌^◌, length, IfOk};
+ghost use Rattle.std.specs.Prelude.{◌≤◌, length, IfOk};
+ghost use Rattle.kv_pairs.specs.declared.growth.TheConstants.{LARGEST_FILE};
 ghost use Rattle.kv_pairs.specs.Mapped.{IsSmall};
 
 use anyhow::bail;
 use crc_words::crc32_from;
 use expiring_map::{ExpiringMap, Memory};
-use kv_pairs::{decode_all, map_of, pack};
+use kv_pairs::{LARGEST_FILE, decode_all, map_of, pack};
 use std::alloc::Global;
-
-// The greatest payload that a file has.
-const LARGEST: usize = 1 << 26;
 
 /// The number of items that a payload has.
 pub fn count_items(alloc: Global, payload: &[u8], times: u32) -> anyhow::Result<usize> {
@@ -22,7 +20,7 @@ pub fn count_items(alloc: Global, payload: &[u8], times: u32) -> anyhow::Result<
 
 /// The map of a payload, packed again.
 pub fn pack_again(alloc: Global, payload: &[u8], times: u32) -> anyhow::Result<Vec<u8>> {
-    if payload.len() > LARGEST {
+    if payload.len() as u64 > LARGEST_FILE {
         bail!("a payload that no file has");
     }
     let map = map_in(alloc, payload)?;
@@ -35,7 +33,7 @@ pub fn pack_again(alloc: Global, payload: &[u8], times: u32) -> anyhow::Result<V
 }
 
 fn map_in(alloc: Global, payload: &[u8]) -> anyhow::Result<ExpiringMap>
-    requires { length payload.now ≤ LARGEST }
+    requires { length payload.now ≤ LARGEST_FILE }
     ensures { IfOk result IsSmall }
 {
     let items = decode_all(alloc, payload)?;

@@ -7,6 +7,7 @@ use Rattle.expiring_map.specs.Map.{Map, value_until}
 use Rattle.kv_pairs.specs.Lengths.{shortest}
 use Rattle.kv_pairs.specs.Reading.{units_at, items_of, greedy_items}
 use Rattle.kv_pairs.specs.declared.item.Item.{Item}
+use Rattle.kv_pairs.specs.declared.packed.TheConstants.{LONGEST_FIELD}
 
 -- the bytes that stand for a value: with the flag, its expiry follows in four bytes
 abbrev pub stored : Bool → ValueUntil → List ℕ
@@ -79,9 +80,9 @@ packed flag m = heading ++ flat_map (λ e. put_item flag e.0 e.1) (fin.entries m
 abbrev pub packed_size : Bool → Map → ℕ
 packed_size flag m = length (packed flag m)
 
--- the key and the value take at most 2 ^ 27 bytes each
+-- neither the key nor the value is longer than an item takes
 abbrev pub IsShort : List ℕ → ValueUntil → Type 0
-IsShort key d = (length key ≤ 2 ^ 27) × (length d.value ≤ 2 ^ 27)
+IsShort key d = (length key ≤ LONGEST_FIELD) × (length d.value ≤ LONGEST_FIELD)
 
 -- the map has such pairs alone, and fewer than 2 ^ 32
 pub record IsSmall (m : Map) : Type 0 where

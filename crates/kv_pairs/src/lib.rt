@@ -17,5 +17,7 @@ pub use laws::{
     a_map_with_more_items_fits,
 };
 pub use length::{LengthFault, length_size, read_length, write_length};
-pub use maps::{MapStop, extend, has_map, map_greedy, map_of};
-pub use packed::{a_packed_map_is_read_again, append_item, item_size, pack, packed_size};
+pub use maps::{MapStop, extend, has_map, map_greedy, map_of, read_map};
+pub use packed::{
+    LONGEST_FIELD, a_packed_map_is_read_again, append_item, item_size, pack, packed_size,
+};

@@ -5,7 +5,7 @@ ghost use Rattle.expiring_map.specs.Map.{value_until};
 ghost use Rattle.kv_pairs.specs.Mapped.{map_of, with_item, with_items, has_room_for_expiry, first_without_room, map_in, units_fit, unstored};
 ghost use Rattle.kv_pairs.specs.Found.{HaveKeys, IfNoMap};
 
-use crate::decode::read_unit;
+use crate::decode::{ItemsStop, decode_all, read_unit};
 use crate::item::{Item, Items};
 use crate::length::read_length;
 use expiring_map::{Bytes, ExpiringMap, Memory, Pair};
@@ -56,6 +56,22 @@ pub fn map_greedy(alloc: Global, flag: bool, items: Items) -> Result<ExpiringMap
         }
     }
     Ok(map)
+}
+
+/// The map of a payload, if it has one.
+pub fn read_map(alloc: Global, flag: bool, payload: &[u8]) -> Result<Option<ExpiringMap>, Memory>
+    ensures { IfOk result (λ map. map ≡ map_in flag payload.now) }
+{
+    let items = match decode_all(alloc, payload) {
+        Ok(items) => items,
+        Err(ItemsStop::NotItems { .. }) => return Ok(None),
+        Err(ItemsStop::Memory) => return Err(Memory),
+    };
+    match map_of(alloc, flag, items) {
+        Ok(map) => Ok(Some(map)),
+        Err(MapStop::NoMap { .. }) => Ok(None),
+        Err(MapStop::Memory) => Err(Memory),
+    }
 }
 
 /// Brings these items into a map. After `NoMap` the map has the items before the refused one.

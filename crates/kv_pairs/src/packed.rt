@@ -3,18 +3,22 @@ ghost use Rattle.std.specs.Prelude.{◌≡◌, ◌≢◌, ℕ, ◌+◌, ◌^◌,
 ghost use Rattle.expiring_map.specs.ValueUntil.{ValueUntil};
 ghost use Rattle.expiring_map.specs.Map.{Map, value_until};
 ghost use Rattle.kv_pairs.specs.Lengths.{shortest};
+ghost use Rattle.kv_pairs.specs.declared.packed.TheConstants.{LONGEST_FIELD};
 ghost use Rattle.kv_pairs.specs.Mapped.{written_item, packed, packed_size, map_in, IsSmall, IsPackable};
 
 use crate::length::{length_size, write_length};
 use expiring_map::{ExpiringMap, Memory};
+
+/// The most bytes of a key, or of a value, of which an item is written.
+pub const LONGEST_FIELD: usize = 134_217_728;
 
 // Where a payload begins: 0x00FFFFFF as a length, which counts for nothing.
 const HEADING: [u8; 4] = [0xff, 0xff, 0xff, 0x07];
 
 /// The bytes of an item with a key and a value of so many bytes. No value is a removal.
 pub fn item_size(flag: bool, key: u32, value: u32) -> u64
-    requires key { key ≤ 2 ^ 27 }
-    requires value { value ≤ 2 ^ 27 }
+    requires key { key ≤ LONGEST_FIELD }
+    requires value { value ≤ LONGEST_FIELD }
     ensures size { (bytes : List ℕ) (d : ValueUntil) → length bytes ≡ key → length d.value ≡ value → result ≡ length (written_item flag bytes d) }
     ensures most { result ≤ key + value + 14 }
 {
@@ -31,8 +35,8 @@ pub fn append_item(
     out: &mut Vec<u8>,
 ) -> Result<(), Memory>
     requires some { key.now ≢ [] }
-    requires key { length key.now ≤ 2 ^ 27 }
-    requires value { length value.now ≤ 2 ^ 27 }
+    requires key { length key.now ≤ LONGEST_FIELD }
+    requires value { length value.now ≤ LONGEST_FIELD }
     ensures ok { OnOk result (out.new.items ≡ out.old.items ++ written_item flag key.now (value_until value.now expiry)) }
     ensures err { OnErr result (out.new.items ≡ out.old.items) }
 {
@@ -55,7 +59,7 @@ fn prefixed_size(size: u32) -> u64
 
 // The bytes that are written for a value of this size: with the flag, its expiry takes four more.
 fn stored_size(flag: bool, value: u32) -> u32
-    requires { value ≤ 2 ^ 27 }
+    requires { value ≤ LONGEST_FIELD }
     ensures { result ≡ (if value == 0 then 0 else (if flag then value + 4 else value)) }
 {
     if flag && value > 0 { value + 4 } else { value }
@@ -69,8 +73,8 @@ fn write_item(
     expiry: u32,
     out: &mut Vec<u8>,
 ) -> Result<(), Memory>
-    requires key { length key.now ≤ 2 ^ 27 }
-    requires value { length value.now ≤ 2 ^ 27 }
+    requires key { length key.now ≤ LONGEST_FIELD }
+    requires value { length value.now ≤ LONGEST_FIELD }
     ensures ok { OnOk result (out.new.items ≡ out.old.items ++ written_item flag key.now (value_until value.now expiry)) }
     ensures err { OnErr result (take (length out.old.items) out.new.items ≡ out.old.items) }
 {

@@ -2,7 +2,6 @@
 ghost use Rattle.std.specs.Prelude.{◌≡◌, ◌<◌, ◌≤◌, length, [], IfOk, IfSome};
 ghost use Rattle.std.specs.FinMap as fin;
 ghost use Rattle.kv_pairs.specs.Growth.{largest};
-ghost use Rattle.kv_pairs.specs.Mapped.{map_in};
 ghost use Rattle.region_words.specs.Region.{Region, size_of};
 ghost use Rattle.loader.specs.FirstWords.{AreFirst, HasWords, IsWritten, standing_in};
 ghost use Rattle.loader.specs.Candidates.{IsFront, ShowsSize};
@@ -11,8 +10,9 @@ ghost use Rattle.loader.specs.Outlooks.{IsFoundIn, IsLoaded, checksum_of};
 use crate::first_words::FirstWords;
 use crate::loaded::Image;
 use expiring_map::{ExpiringMap, Memory};
-use kv_pairs::{ItemsStop, MapStop, decode_all, map_of};
+use kv_pairs::read_map;
 use meta_record::{Damage, Record, Shown};
+use region_words::size_of;
 use std::alloc::Global;
 
 /// What a region shows, and its image.
@@ -41,7 +41,7 @@ pub fn find(
     };
     let rec = first.record();
     let payload = &payload[..size as usize];
-    let Some(map) = map_in(alloc, rec.flags == 1, payload)? else {
+    let Some(map) = read_map(alloc, rec.flags == 1, payload)? else {
         return Ok(without_image(alloc, first, Shown::Damaged(Damage::Content)));
     };
     let standing = first.standing(payload, checksum_of(&rec, shown));
@@ -65,16 +65,6 @@ fn without_image(alloc: Global, first: &FirstWords, shown: Shown) -> Found
     }
 }
 
-// The size of the image shown.
-fn size_of(shown: Shown) -> Option<u32>
-    ensures { result ≡ size_of shown }
-{
-    match shown {
-        Shown::Whole(size) | Shown::Header(size) | Shown::Last(size) => Some(size),
-        Shown::Damaged(_) => None,
-    }
-}
-
 // The checksum by which an image is shown.
 fn checksum_of(rec: &Record, shown: Shown) -> u32
     ensures { result ≡ checksum_of rec.now shown }
@@ -83,21 +73,5 @@ fn checksum_of(rec: &Record, shown: Shown) -> u32
         Shown::Whole(_) | Shown::Header(_) => rec.checksum,
         Shown::Last(_) => rec.last_checksum,
         Shown::Damaged(_) => 0,
-    }
-}
-
-// The map of a payload, if it has one.
-fn map_in(alloc: Global, flag: bool, payload: &[u8]) -> Result<Option<ExpiringMap>, Memory>
-    ensures { IfOk result (λ map. map ≡ map_in flag payload.now) }
-{
-    let items = match decode_all(alloc, payload) {
-        Ok(items) => items,
-        Err(ItemsStop::NotItems { .. }) => return Ok(None),
-        Err(ItemsStop::Memory) => return Err(Memory),
-    };
-    match map_of(alloc, flag, items) {
-        Ok(map) => Ok(Some(map)),
-        Err(MapStop::NoMap { .. }) => Ok(None),
-        Err(MapStop::Memory) => Err(Memory),
     }
 }

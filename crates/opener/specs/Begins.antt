@@ -1,7 +1,8 @@
 -- How a call begins.
-use Rattle.std.specs.Prelude.{◌≡◌, ℕ, ◌^◌, ⊤, Bool, true, false, List, Option, Some, None, length, nat_lt, nat_le, ◌==◌, ◌||◌, ◌&&◌, if◌then◌else◌}
+use Rattle.std.specs.Prelude.{◌≡◌, ℕ, ⊤, Bool, true, false, List, Option, Some, None, length, nat_lt, nat_le, ◌==◌, ◌||◌, ◌&&◌, if◌then◌else◌}
 use Rattle.change_log.specs.declared.call.Call.{Call}
 use Rattle.change_log.specs.declared.call.Call.TheVariants as call
+use Rattle.kv_pairs.specs.declared.packed.TheConstants.{LONGEST_FIELD}
 use Rattle.lock_rules.specs.declared.limits.TheConstants.{MOST_HOLDS}
 use Rattle.region_words.specs.Rows.{AreBytes}
 use Rattle.loader.specs.declared.loaded.Image.{Image}
@@ -18,13 +19,13 @@ use Rattle.opener.specs.declared.work.Work.TheVariants.{Idle, Ended, Runs}
 
 -- why a key is refused, or a pair
 abbrev pub key_refusal : List ℕ → Option Refused
-key_refusal key = if length key == 0 then Some why.EmptyKey else (if nat_lt (2 ^ 27) (length key) then Some why.TooLong else None)
+key_refusal key = if length key == 0 then Some why.EmptyKey else (if nat_lt LONGEST_FIELD (length key) then Some why.TooLong else None)
 
 abbrev pub pair_refusal : List ℕ → List ℕ → Option Refused
 pair_refusal key value =
     if length key == 0 then Some why.EmptyKey
     else (if length value == 0 then Some why.EmptyValue
-    else (if nat_lt (2 ^ 27) (length key) || nat_lt (2 ^ 27) (length value) then Some why.TooLong else None))
+    else (if nat_lt LONGEST_FIELD (length key) || nat_lt LONGEST_FIELD (length value) then Some why.TooLong else None))
 
 -- why a call is refused for what it asks, beside so many holds
 abbrev pub call_refusal : Call → ℕ → Option Refused

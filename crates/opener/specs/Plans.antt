@@ -5,6 +5,7 @@ use Rattle.expiring_map.specs.Map.{Map}
 use Rattle.expiring_map.specs.Live.{live_part}
 use Rattle.kv_pairs.specs.Mapped.{packed_size}
 use Rattle.kv_pairs.specs.Fits.{FitsIn}
+use Rattle.kv_pairs.specs.declared.packed.TheConstants.{LONGEST_FIELD}
 use Rattle.kv_pairs.specs.Growth.{IsFileSize, rewrite_size}
 use Rattle.change_log.specs.Acts.{act_of, applied}
 use Rattle.change_log.specs.declared.call.Call.{Call}
@@ -27,7 +28,7 @@ use Rattle.opener.specs.declared.plan.Plan.TheVariants.{Append, Rewrite}
 
 -- a call that changes the map, with a key and a value that a store can hold
 abbrev pub CanWrite : Call → Type 0
-CanWrite (call.Put key value seconds) = IsKey key × (0 < length value) × (length value ≤ 2 ^ 27) × AreBytes value
+CanWrite (call.Put key value seconds) = IsKey key × (0 < length value) × (length value ≤ LONGEST_FIELD) × AreBytes value
 CanWrite (call.Remove key) = IsKey key
 CanWrite call.Clear = ⊤
 CanWrite _ = ⊥

@@ -5,9 +5,8 @@ ghost use Rattle.opener.specs.Begins.{HasBytes, call_refusal, key_refusal, pair_
 
 use crate::calls::Refused;
 use change_log::Call;
+use kv_pairs::LONGEST_FIELD;
 use lock_rules::MOST_HOLDS;
-
-const LONGEST: usize = 1 << 27;
 
 /// Why a call is refused for what it is asked, beside so many holds.
 pub fn refusal(call: &Call, holds: u32) -> Option<Refused>
@@ -29,7 +28,7 @@ fn key_refusal(key: &[u8]) -> Option<Refused>
 {
     if key.is_empty() {
         Some(Refused::EmptyKey)
-    } else if key.len() > LONGEST {
+    } else if key.len() > LONGEST_FIELD {
         Some(Refused::TooLong)
     } else {
         None
@@ -44,7 +43,7 @@ fn pair_refusal(key: &[u8], value: &[u8]) -> Option<Refused>
         Some(Refused::EmptyKey)
     } else if value.is_empty() {
         Some(Refused::EmptyValue)
-    } else if key.len() > LONGEST || value.len() > LONGEST {
+    } else if key.len() > LONGEST_FIELD || value.len() > LONGEST_FIELD {
         Some(Refused::TooLong)
     } else {
         None

@@ -6,6 +6,7 @@ use Rattle.crc_words.specs.Crc.{crc, crc_from}
 use Rattle.expiring_map.specs.Map.{Map, value_until, pairs_of}
 use Rattle.kv_pairs.specs.Mapped.{packed, put_item, remove_item, greedy_map}
 use Rattle.kv_pairs.specs.Growth.{grown_size}
+use Rattle.kv_pairs.specs.declared.packed.TheConstants.{LONGEST_FIELD}
 use Rattle.change_log.specs.Acts.{applied}
 use Rattle.change_log.specs.declared.change.Act.{Act}
 use Rattle.change_log.specs.declared.change.Act.TheVariants as act
@@ -43,12 +44,12 @@ abbrev pub AreBytes : List ℕ → Type 0
 AreBytes bytes = All (λ b. b < 256) bytes
 
 abbrev pub IsKey : List ℕ → Type 0
-IsKey key = (0 < length key) × (length key ≤ 2 ^ 27) × AreBytes key
+IsKey key = (0 < length key) × (length key ≤ LONGEST_FIELD) × AreBytes key
 
 -- a put or remove that may be appended: nothing in it is empty, and it expires only where the flag is on
 abbrev pub IsAppendable : Bool → Act → Type 0
 IsAppendable flag (act.Put key value expiry) =
-    IsKey key × (0 < length value) × (length value ≤ 2 ^ 27) × AreBytes value × (expiry < 2 ^ 32) × (flag ≡ false → expiry ≡ 0)
+    IsKey key × (0 < length value) × (length value ≤ LONGEST_FIELD) × AreBytes value × (expiry < 2 ^ 32) × (flag ≡ false → expiry ≡ 0)
 IsAppendable flag (act.Remove key) = IsKey key
 IsAppendable flag _ = ⊥
 

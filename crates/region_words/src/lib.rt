@@ -55,7 +55,7 @@ pub use row_maker::RowMaker;
 pub use seat::LocalSeat;
 pub use share::Share;
 pub use shelf::{Brought, LARGEST_DATA, LARGEST_META, Shelf, ShelfStop};
-pub use showing::{base_map, shown};
+pub use showing::{base_map, shown, size_of};
 pub use sink::Sink;
 pub use source::{Failed, Source};
 pub use standing::Standing;

@@ -6,7 +6,7 @@ ghost use Rattle.kv_pairs.specs.Mapped.{map_in};
 ghost use Rattle.region_words.specs.Region.{region_of, shown, base, size_of, shown_if_accepted};
 
 use expiring_map::{ExpiringMap, Memory};
-use kv_pairs::{ItemsStop, MapStop, decode_all, has_map, map_of};
+use kv_pairs::{has_map, read_map};
 use meta_record::{Damage, RecordFault, Shown, check_record, load_word, record_of, shown_size};
 use std::alloc::Global;
 
@@ -31,8 +31,8 @@ pub fn shown(body: &[u8], meta: &[u8]) -> Result<Shown, RecordFault>
     }
 }
 
-// The size of the image shown.
-fn size_of(shown: Shown) -> Option<u32>
+/// The size of the image shown, in bytes; a damaged region shows none.
+pub fn size_of(shown: Shown) -> Option<u32>
     ensures { result ≡ size_of shown }
 {
     match shown {
@@ -68,14 +68,8 @@ pub fn base_map(alloc: Global, body: &[u8], meta: &[u8], seen: Shown) -> Result<
 fn map_or_empty(alloc: Global, flag: bool, payload: &[u8]) -> Result<ExpiringMap, Memory>
     ensures { IfOk result (λ map. map ≡ unwrap_or (map_in flag payload.now) fin.empty) }
 {
-    let items = match decode_all(alloc, payload) {
-        Ok(items) => items,
-        Err(ItemsStop::NotItems { .. }) => return Ok(ExpiringMap::new(alloc)),
-        Err(ItemsStop::Memory) => return Err(Memory),
-    };
-    match map_of(alloc, flag, items) {
-        Ok(map) => Ok(map),
-        Err(MapStop::NoMap { .. }) => Ok(ExpiringMap::new(alloc)),
-        Err(MapStop::Memory) => Err(Memory),
+    match read_map(alloc, flag, payload)? {
+        Some(map) => Ok(map),
+        None => Ok(ExpiringMap::new(alloc)),
     }
 }

@@ -1,14 +1,12 @@
 // What is stored: bytes of a pattern, and a map of small pairs.
-ghost use Rattle.std.specs.Prelude.{◌≡◌, ◌^◌, ◌≤◌, IfOk, length};
+ghost use Rattle.std.specs.Prelude.{◌≡◌, ◌≤◌, IfOk, length};
+ghost use Rattle.kv_pairs.specs.declared.growth.TheConstants.{LARGEST_FILE};
 ghost use Rattle.stores_bench.specs.Pairs.{CanBeWritten, IsRead};
 
 use anyhow::bail;
 use expiring_map::{ExpiringMap, Memory};
-use kv_pairs::{append_item, decode_all, map_of, packed_size};
+use kv_pairs::{LARGEST_FILE, append_item, decode_all, map_of, packed_size};
 use std::alloc::Global;
-
-// The greatest payload that a file has.
-const LARGEST: usize = 1 << 26;
 
 // Where a payload begins.
 const HEADING: [u8; 4] = [0xff, 0xff, 0xff, 0x07];
@@ -32,18 +30,18 @@ pub fn map_of_size(alloc: Global, size: u32) -> anyhow::Result<ExpiringMap>
     ensures { IfOk result CanBeWritten }
 {
     let payload = payload_of(alloc, size / ITEM)?;
-    if payload.len() > LARGEST {
+    if payload.len() as u64 > LARGEST_FILE {
         bail!("a payload that no file has");
     }
     let map = map_in(alloc, &payload)?;
-    if packed_size(false, &map) > LARGEST as u64 || map.len() > LARGEST {
+    if packed_size(false, &map) > LARGEST_FILE || map.len() as u64 > LARGEST_FILE {
         bail!("a map that no file has");
     }
     Ok(map)
 }
 
 fn map_in(alloc: Global, payload: &[u8]) -> anyhow::Result<ExpiringMap>
-    requires { length payload.now ≤ 2 ^ 26 }
+    requires { length payload.now ≤ LARGEST_FILE }
     ensures { IfOk result IsRead }
 {
     let items = decode_all(alloc, payload)?;
