@@ -1,4 +1,3 @@
-pub mod Remaining
 pub mod Writing
 pub mod Reading
 pub mod Numerals
