@@ -11,7 +11,7 @@ use Rattle.change_log.specs.declared.change.Act.TheVariants as act
 use Rattle.meta_record.specs.declared.shown.Shown.TheVariants.{Whole}
 use Rattle.change_log.specs.declared.change.Act.{Act}
 use Rattle.region_words.specs.Region.{Region, record_of, flag, payload_of, shown, size_shown, size_of}
-use Rattle.region_words.specs.Rows.{Row, Append, Pack, Clear, Enable, Disable, Restore, Discard, Recover, SizeRepair, events_of, standing, append_stores, item_of, mark_of, stores_from, store_data, store_meta}
+use Rattle.region_words.specs.Rows.{Row, Append, Pack, Clear, Enable, Disable, Restore, Discard, Recover, SizeRepair, events_of, standing, append_stores, restore_stores, discard_stores, size_repair_stores, item_of, mark_of, stores_from, store_data, store_meta}
 use Rattle.region_words.specs.Making.{write_back_by, switch_by}
 use Rattle.region_words.proofs.OfRegion.{append_to}
 use Rattle.region_words.specs.Standings.{IsStandingOf, standing_of, first_of, words_of, tail_bytes}
@@ -141,3 +141,17 @@ row_is r m who Restore w = absurd w
 row_is r m who Discard w = absurd w
 row_is r m who Recover w = absurd w
 row_is r m who SizeRepair w = absurd w
+
+-- and those of a repair without a payload, whatever the region shows
+pub restore_is : (r : Region) (s : Standing) (m : Map) (who : ℕ) → s ≡ standing r →
+    events_of r m who Restore ≡ restore_stores s (record_of r) (mark_of r who Restore)
+unfolding events_of
+restore_is r s m who is = ap (λ (t : Standing). restore_stores t (record_of r) (mark_of r who Restore)) (sym is)
+
+pub discard_is : (r : Region) (s : Standing) (m : Map) (who : ℕ) → s ≡ standing r → events_of r m who Discard ≡ discard_stores s (mark_of r who Discard)
+unfolding events_of
+discard_is r s m who is = ap (λ (t : Standing). discard_stores t (mark_of r who Discard)) (sym is)
+
+pub size_repair_by : (r : Region) (s : Standing) (m : Map) (who : ℕ) → s ≡ standing r → events_of r m who SizeRepair ≡ size_repair_stores s
+unfolding events_of
+size_repair_by r s m who is = ap (λ (t : Standing). size_repair_stores t) (sym is)

@@ -122,7 +122,7 @@ pub record Confirms (v : View) (q : Map) : Type 0 where
   pub agrees : agree v v.last v.last_sum ≡ true
   pub maps : map_at v v.last ≡ Some q
 
-confirms : (v : View) (n : ℕ) → seen v ≡ Last n → (q : Map) × Confirms v q
+pub confirms : (v : View) (n : ℕ) → seen v ≡ Last n → (q : Map) × Confirms v q
 confirms v n s =
     elim (look v) [
       | look_whole k a em t ↦ absurd cc

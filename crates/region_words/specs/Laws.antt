@@ -11,9 +11,9 @@ use Rattle.change_log.specs.declared.change.Act.TheVariants as act
 use Rattle.change_log.specs.declared.change.Change.{Change}
 use Rattle.lock_rules.specs.Locks.{holds, holds_exclusive}
 use Rattle.meta_record.specs.declared.shown.Shown.TheVariants.{Whole, Last}
-use Rattle.region_words.specs.Region.{Region, IsRegion, IsAccepted, record_of, flag, payload_of, file_size, shown, map_shown, ShowsMap}
+use Rattle.region_words.specs.Region.{Region, IsRegion, IsAccepted, record_of, flag, payload_of, file_size, shown, map_shown, base, ShowsMap}
 use Rattle.region_words.specs.Past.{region_after, after_all, changes_of, locks_after, NoneOf}
-use Rattle.region_words.specs.Rows.{Append, Pack, Clear, Enable, Disable, Restore, Recover, Row, MayBegin, HasRoom, IsAppendable, IsWhole, AreBytes, append_stores, store_data, store_meta, events_of, flag_after, item_of, payload_after, size_after, standing}
+use Rattle.region_words.specs.Rows.{Append, Pack, Clear, Enable, Disable, Restore, Discard, Recover, SizeRepair, Row, MayBegin, HasRoom, IsAppendable, IsWhole, AreBytes, append_stores, restore_stores, discard_stores, size_repair_stores, store_data, store_meta, events_of, flag_after, item_of, payload_after, size_after, standing}
 use Rattle.region_words.specs.Standings.{standing_of, IsStandingOf}
 use Rattle.region_words.specs.Apart.{Apart}
 use Rattle.region_words.specs.Lawful.{Lawful, Phase, Between, Within, Reaches, MayTear, map_after}
@@ -224,11 +224,27 @@ EnableIsMadeFromItsStanding =
     (r : Region) (s : Standing) (m : Map) (who now seconds : ℕ) → s ≡ standing r →
     events_of r m who (Enable now seconds) ≡ switch_by s true 1 (applied m (act.Enable now seconds)) (Commit (record { maker = who; act = act.Enable now seconds }))
 
--- and those of a Disable, which stores the flags 0.
+-- those of a Disable, which stores the flags 0,
 abbrev pub DisableIsMadeFromItsStanding : Type 0
 DisableIsMadeFromItsStanding =
     (r : Region) (s : Standing) (m : Map) (who now : ℕ) → s ≡ standing r →
     events_of r m who (Disable now) ≡ switch_by s false 0 (applied m (act.Disable now)) (Commit (record { maker = who; act = act.Disable now }))
+
+-- those of a Restore, which names the pairs of the image restored,
+abbrev pub RestoreIsMadeFromItsStanding : Type 0
+RestoreIsMadeFromItsStanding =
+    (r : Region) (s : Standing) (m : Map) (who : ℕ) → s ≡ standing r →
+    events_of r m who Restore ≡ restore_stores s (record_of r) (Commit (record { maker = who; act = act.Restored (pairs_of (base r)) }))
+
+-- those of a Discard,
+abbrev pub DiscardIsMadeFromItsStanding : Type 0
+DiscardIsMadeFromItsStanding =
+    (r : Region) (s : Standing) (m : Map) (who : ℕ) → s ≡ standing r →
+    events_of r m who Discard ≡ discard_stores s (Commit (record { maker = who; act = act.Discarded }))
+
+-- and that of a repair of the size, which commits nothing.
+abbrev pub SizeRepairIsMadeFromItsStanding : Type 0
+SizeRepairIsMadeFromItsStanding = (r : Region) (s : Standing) (m : Map) (who : ℕ) → s ≡ standing r → events_of r m who SizeRepair ≡ size_repair_stores s
 
 -- After an append to a whole image the longer image is known by the old standing and the item.
 abbrev pub AppendLeavesItsStanding : Type 0
@@ -262,6 +278,35 @@ RecoverLeavesItsStanding =
     let new = payload_after r m Recover in
     let t = after_all r (events_of r m who Recover) in
     ((record_of t).size ≡ length new) × (standing_of t (length new) ≡ rewritten_standing (standing r) (record_of r).version (flag r) (size_after r m Recover) new)
+
+-- A last confirmed image that is shown has the size and the checksum that the record names for it.
+abbrev pub LastStandsInTheRecord : Type 0
+LastStandsInTheRecord =
+    (r : Region) (n : ℕ) → shown r ≡ Last n → ((standing r).size ≡ (record_of r).last_size) × ((standing r).checksum ≡ (record_of r).last_checksum)
+
+-- After its restore that image is known as before, but for the sequence.
+abbrev pub RestoreLeavesItsStanding : Type 0
+RestoreLeavesItsStanding =
+    (r : Region) (m : Map) (room : Option ℕ) (who : ℕ) → IsRegion r → MayBegin r m room Restore →
+    let s = standing r in
+    let t = after_all r (events_of r m who Restore) in
+    ((record_of t).size ≡ s.size) × (standing_of t s.size ≡ record s { sequence = s.sequence + 1 })
+
+-- After a discard the empty image is known,
+abbrev pub DiscardLeavesItsStanding : Type 0
+DiscardLeavesItsStanding =
+    (r : Region) (m : Map) (room : Option ℕ) (who : ℕ) → IsRegion r → MayBegin r m room Discard →
+    let s = standing r in
+    let t = after_all r (events_of r m who Discard) in
+    ((record_of t).size ≡ 0) × (standing_of t 0 ≡ record s { sequence = s.sequence + 1; size = 0; checksum = 0; tail = 0 })
+
+-- and after a repair of the size the image is known as before.
+abbrev pub SizeRepairLeavesItsStanding : Type 0
+SizeRepairLeavesItsStanding =
+    (r : Region) (m : Map) (room : Option ℕ) (who : ℕ) → IsRegion r → MayBegin r m room SizeRepair →
+    let s = standing r in
+    let t = after_all r (events_of r m who SizeRepair) in
+    ((record_of t).size ≡ s.size) × (standing_of t s.size ≡ s)
 
 -- A map is packed to bytes where its pairs can be packed and read again.
 abbrev pub PackedIsBytes : Type 0

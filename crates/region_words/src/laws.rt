@@ -3,8 +3,10 @@ ghost use Rattle.region_words.specs.Laws.{FrontsAreLawful, FrontsAreApart, Stays
 ghost use Rattle.region_words.specs.Laws.{ShowsHistoryAtRest, ShowsHistoryWhereFree, ShowsHistoryAfterACutAppend, LastIsConfirmed, LastHasTheHistory, LastIsRestored};
 ghost use Rattle.region_words.specs.Laws.{ShowsHistoryAfterACut, ShowsHistoryOrBreaks, RowsEndWhole, RestoresShowTheLastImage};
 ghost use Rattle.region_words.specs.Laws.{AppendIsMadeFromItsStanding, PackIsMadeFromItsStanding, ClearIsMadeFromItsStanding, EnableIsMadeFromItsStanding, DisableIsMadeFromItsStanding};
+ghost use Rattle.region_words.specs.Laws.{RestoreIsMadeFromItsStanding, DiscardIsMadeFromItsStanding, SizeRepairIsMadeFromItsStanding};
 ghost use Rattle.region_words.specs.Laws.{PackedIsBytes, ShownMapsCanBePacked, AppendsCanBePacked, RewritesCanBePacked};
 ghost use Rattle.region_words.specs.Laws.{AppendLeavesItsStanding, WriteBackLeavesItsStanding, SwitchLeavesItsStanding, RecoverLeavesItsStanding};
+ghost use Rattle.region_words.specs.Laws.{LastStandsInTheRecord, RestoreLeavesItsStanding, DiscardLeavesItsStanding, SizeRepairLeavesItsStanding};
 ghost use Rattle.region_words.specs.Laws.{SequenceTellsTheImage, PeeksTellTheImage, PartialLoadsHold, WholeImagesGoOn};
 
 /// A journal is lawful up to each of its events, and its payloads are told apart up to each.
@@ -91,6 +93,9 @@ pub fn a_row_is_made_from_its_standing()
     ensures clear { ClearIsMadeFromItsStanding }
     ensures enable { EnableIsMadeFromItsStanding }
     ensures disable { DisableIsMadeFromItsStanding }
+    ensures restore { RestoreIsMadeFromItsStanding }
+    ensures discard { DiscardIsMadeFromItsStanding }
+    ensures size_repair { SizeRepairIsMadeFromItsStanding }
 {}
 
 /// What is known of an image after a row is worked out from what was known before it: nothing is read again.
@@ -99,6 +104,10 @@ pub fn a_row_leaves_its_standing()
     ensures write_back { WriteBackLeavesItsStanding }
     ensures switch { SwitchLeavesItsStanding }
     ensures recover { RecoverLeavesItsStanding }
+    ensures last { LastStandsInTheRecord }
+    ensures restore { RestoreLeavesItsStanding }
+    ensures discard { DiscardLeavesItsStanding }
+    ensures size_repair { SizeRepairLeavesItsStanding }
 {}
 
 /// A map is packed to bytes where its pairs can be packed and read again. They can in the map that a region shows, and in

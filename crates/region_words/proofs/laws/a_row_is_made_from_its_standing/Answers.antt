@@ -5,7 +5,7 @@ use Rattle.region_words.specs.Rows.{Pack, Clear, Enable, Disable, events_of}
 use Rattle.region_words.specs.Making.{write_back_by, switch_by}
 use Rattle.region_words.specs.declared.standing.Standing.{Standing}
 use Rattle.region_words.specs.declared.event.Mark.TheVariants.{Commit}
-use Rattle.region_words.proofs.ByStanding.{append_by_known, row_is}
+use Rattle.region_words.proofs.ByStanding.{append_by_known, row_is, restore_is, discard_is, size_repair_by}
 use Rattle.region_words.proofs.laws.a_row_is_made_from_its_standing.Goals as goal
 
 pub returns-clause-append : goal.returns-clause-append
@@ -26,3 +26,12 @@ returns-clause-enable c = λ r s m who now seconds is.
 pub returns-clause-disable : goal.returns-clause-disable
 returns-clause-disable c = λ r s m who now is.
     subst (λ (t : Standing). events_of r m who (Disable now) ≡ switch_by t false 0 (applied m (act.Disable now)) (Commit (record { maker = who; act = act.Disable now }))) (sym is) (row_is r m who (Disable now) tt)
+
+pub returns-clause-restore : goal.returns-clause-restore
+returns-clause-restore c = λ r s m who is. restore_is r s m who is
+
+pub returns-clause-discard : goal.returns-clause-discard
+returns-clause-discard c = λ r s m who is. discard_is r s m who is
+
+pub returns-clause-size_repair : goal.returns-clause-size_repair
+returns-clause-size_repair c = λ r s m who is. size_repair_by r s m who is
