@@ -24,7 +24,7 @@ pub size_by_entries : (flag : Bool) (m : Map) → packed_size flag m ≡ 4 + ite
 unfolding packed
 size_by_entries flag m = length-append heading (flat_map (λ e. put_item flag e.0 e.1) (fin.entries m))
 
-one_more : (flag : Bool) (e : Entry) (es : List Entry) → items_size flag (e ∷ es) ≡ length (put_item flag e.0 e.1) + items_size flag es
+pub one_more : (flag : Bool) (e : Entry) (es : List Entry) → items_size flag (e ∷ es) ≡ length (put_item flag e.0 e.1) + items_size flag es
 one_more flag e es = length-append (put_item flag e.0 e.1) (flat_map (λ e. put_item flag e.0 e.1) es)
 
 -- an entry that is put in its place
@@ -86,7 +86,7 @@ empty_size flag = size_by_entries flag fin.empty ∙ ap (λ es. 4 + items_size f
     none (x ∷ es) e = absurd (omega (arith, e))
 
 -- the map of some entries takes no more than they do
-made_size : (flag : Bool) (es : List Entry) → packed_size flag (fin.from_entries es) ≤ 4 + items_size flag es
+pub made_size : (flag : Bool) (es : List Entry) → packed_size flag (fin.from_entries es) ≤ 4 + items_size flag es
 made_size flag [] = omega (arith, empty_size flag)
 made_size flag (e ∷ es) = omega (arith, put_fits flag (fin.from_entries es) e.0 e.1, made_size flag es, one_more flag e es)
 
@@ -97,7 +97,7 @@ live_fits flag m now =
     omega (arith, made_size flag live, part_size flag (λ e. is_live now e.1) (fin.entries m), size_by_entries flag m)
 
 -- each pair takes a byte at least
-some_bytes : (n : ℕ) → 0 < length (shortest n)
+pub some_bytes : (n : ℕ) → 0 < length (shortest n)
 unfolding shortest
 some_bytes n = go (nat_lt n 128)
   where
