@@ -7,16 +7,18 @@ use Rattle.region_words.specs.Apart.{Apart}
 use Rattle.region_words.specs.Local.{LacksPlaces, Seated, account_of, after_admission, with_account}
 use Rattle.region_words.specs.Outcome.{AtRest, ShowsHistory}
 use Rattle.region_words.specs.Past.{NoneDies, changes_of, region_after}
-use Rattle.region_words.specs.Region.{IsAccepted, base}
+use Rattle.region_words.specs.Region.{base}
 use Rattle.region_words.specs.declared.places.AdmitStop.{AdmitStop}
 use Rattle.region_words.specs.declared.places.AdmitStop.TheVariants as admit
 use Rattle.opener.specs.Adds.{AddsTo}
 use Rattle.opener.specs.Begins.{Begins, refusal}
 use Rattle.opener.specs.Bound.{Falls, steps_left}
+use Rattle.opener.specs.Fresh.{CountedBy, CountsSoFar}
 use Rattle.opener.specs.Opener.{HasCause, IsAnswer, KeepsWork, MakesOne, OnAnswer}
 use Rattle.opener.specs.Quiet.{RestsQuietly}
 use Rattle.opener.specs.Settles.{answers_by}
 use Rattle.opener.specs.State.{OpenerState}
+use Rattle.opener.specs.Steps.{ActsAt, IsPlaceOf, KeepsImage, OnRunning, TakesTried, peek_of}
 use Rattle.opener.specs.declared.calls.Step.{Step}
 use Rattle.opener.specs.declared.calls.Step.TheVariants as step
 use Rattle.opener.specs.declared.work.Work.TheVariants.{Idle}
@@ -60,6 +62,7 @@ pub record BeginsCall (who : ℕ) (asked : Call) (now : ℕ) (o next : OpenerSta
   pub first : refusal o asked ≡ None
   pub begins : Begins asked now (length (changes_of old.region.past)) o next
   pub few : (words : ℕ) → steps_left words next.work ≤ 6 * words + 100
+  pub counts : CountsSoFar next.work
   pub openers : new.openers ≡ slice_set old.openers (who - 1) next
   pub answers : new.answers ≡ old.answers
   pub region : new.region ≡ old.region
@@ -83,7 +86,12 @@ pub record Steps (who : ℕ) (o next : OpenerState) (came : Step) (old new : Wor
   pub adds : AddsTo o.who o.work came next.work (share_of old.region who) (share_of new.region who)
   pub call : KeepsWork o came next
   pub cause : HasCause o.work came next.work (share_of old.region who) (share_of new.region who)
+  pub takes : TakesTried o.work (share_of old.region who) (share_of new.region who)
+  pub acts : OnRunning o.work (λ at. ActsAt came at o.image next.work (share_of old.region who) (share_of new.region who))
   pub answer : OnAnswer came (λ a. IsAnswer a new.region.start new.region.past)
+  pub place : OnRunning o.work (λ at. OnAnswer came (IsPlaceOf (peek_of at)))
+  pub image : OnRunning o.work (λ at. KeepsImage came at o.image next (share_of new.region who))
+  pub counts : OnRunning o.work (λ at. CountedBy came at next.work)
   pub falls : Falls o.work came next.work (share_of new.region who)
 
 -- this holds where a step was an answer

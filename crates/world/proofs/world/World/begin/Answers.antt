@@ -1,6 +1,5 @@
-use Rattle.std.proofs.Common.{◌≡◌, length, sym, ap, subst, arith, ◌∙◌}
-use Rattle.std.specs.Prelude.{Some, slice_get}
-use Rattle.world.specs.World.{Lives, WorldState, calls_running}
+use Rattle.std.proofs.Common.{◌≡◌, ap, subst, arith, ◌∙◌}
+use Rattle.world.specs.World.{Lives, WorldState}
 use Rattle.world.proofs.Numbered.{few_run, within_is}
 use Rattle.world.proofs.Turns.{lives_at}
 use Rattle.world.proofs.world.World.begin.Goals as goal

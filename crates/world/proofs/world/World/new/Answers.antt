@@ -1,4 +1,4 @@
-use Rattle.std.proofs.Common.{◌≡◌, sym, ap, subst, arith, replicate}
+use Rattle.std.proofs.Common.{arith}
 use Rattle.world.proofs.Fresh.{world_of_none}
 use Rattle.world.proofs.world.World.new.Goals as goal
 
