@@ -95,7 +95,7 @@ module _ (l : Local) (turned new : Seated) (openers : List OpenerState) (answers
   pub room_after : (room : ℕ) → length answers + calls_running openers ≤ room → length (answers ++ answers_by came) + calls_running (set openers i next) ≤ room
   room_after room within = room_left openers answers i o next came room at (ends_or_stays o next came o.work refl made.call) within
 
-  start_same : new.region.start ≡ l.start
+  pub start_same : new.region.start ≡ l.start
   start_same = go numbered.makes
     where
       go : MakesOne (share_of l (i + 1)) (share_of new.region (i + 1)) → new.region.start ≡ l.start
@@ -103,9 +103,9 @@ module _ (l : Local) (turned new : Seated) (openers : List OpenerState) (answers
       go (inr (left, after, few)) = after.told.start
 
   -- nothing was changed under another's hold
-  pub held_kept : (more : List Answer) →
-      HoldsAreKept (i + 1) (record { region = l; openers = openers; answers = answers }) (record { region = new.region; openers = set openers i next; answers = more })
-  held_kept more other p apart lives some =
+  pub held_kept : (more : List Answer) (noted : Bool) →
+      HoldsAreKept (i + 1) (record { region = l; openers = openers; answers = answers; noted = noted }) (record { region = new.region; openers = set openers i next; answers = more; noted = noted })
+  held_kept more noted other p apart lives some =
       let j = other - 1 in
       let is : j + 1 ≡ other = omega (arith, lives.numbered) in
       let apart' : i + 1 ≢ j + 1 = (λ e. apart (sym (e ∙ is))) in
@@ -114,15 +114,16 @@ module _ (l : Local) (turned new : Seated) (openers : List OpenerState) (answers
       (Some Exclusive) (tied.holds ∙ holds_exclusive p p.work refl lives.alive some) (exclusive_some (Some Exclusive) refl)
 
   -- all that the world says of the step
-  pub steps_are : (more : List Answer) → more ≡ answers ++ answers_by came → is_ended o.work ≡ false →
-      Steps (i + 1) o next came (record { region = l; openers = openers; answers = answers }) (record { region = new.region; openers = set openers i next; answers = more })
-  steps_are more more_is alive =
+  pub steps_are : (noted : Bool) (more : List Answer) → more ≡ answers ++ answers_by came → is_ended o.work ≡ false →
+      Steps (i + 1) o next came (record { region = l; openers = openers; answers = answers; noted = noted }) (record { region = new.region; openers = set openers i next; answers = more; noted = noted })
+  steps_are noted more more_is alive =
       let e : i + 1 - 1 ≡ i = omega arith in
       record {
         lives = lives_at openers i o at alive;
         openers = ap (λ n. set openers n next) (sym e);
         answers = more_is;
         start = start_same;
+        noted = refl;
         makes = numbered.makes;
         adds = numbered.adds;
         call = numbered.call;
@@ -184,10 +185,10 @@ module _ (l : Local) (turned : Seated) (openers : List OpenerState) (answers : L
       subst (λ (s : Seated). IsWorld s.region (set openers i next) answers) (sym is)
       (began l openers answers i o next world at (subst (λ (s : Seated). Tied next (seat_state s)) is tied) (subst (λ (s : Seated). BeginsSettled o next (seat_state s)) is settles) counted)
 
-  pub calls_begun : (asked : Call) (now : ℕ) → refusal o asked ≡ None → Begins asked now (length (changes_of turned.region.past)) o next → ((words : ℕ) → steps_left words next.work ≤ 6 * words + 100) →
+  pub calls_begun : (noted : Bool) (asked : Call) (now : ℕ) → refusal o asked ≡ None → Begins asked now (length (changes_of turned.region.past)) o next → ((words : ℕ) → steps_left words next.work ≤ 6 * words + 100) →
       CountsSoFar next.work → is_ended o.work ≡ false →
-      Begun (i + 1) asked now (record { region = l; openers = openers; answers = answers }) (record { region = turned.region; openers = set openers i next; answers = answers })
-  calls_begun asked now first begins few counts alive =
+      Begun (i + 1) asked now (record { region = l; openers = openers; answers = answers; noted = noted }) (record { region = turned.region; openers = set openers i next; answers = answers; noted = noted })
+  calls_begun noted asked now first begins few counts alive =
       let e : i + 1 - 1 ≡ i = omega arith in
       let region : turned.region ≡ l = ap (λ (s : Seated). s.region) is in (
         o,
@@ -201,6 +202,7 @@ module _ (l : Local) (turned : Seated) (openers : List OpenerState) (answers : L
           openers = ap (λ n. set openers n next) (sym e);
           answers = refl;
           region = region;
+          noted = refl;
         },
       )
 

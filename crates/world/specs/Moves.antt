@@ -1,5 +1,5 @@
 -- What a world's calls do.
-use Rattle.std.specs.Prelude.{◌≡◌, ◌≢◌, ℕ, ◌+◌, ◌-◌, ◌*◌, ◌<◌, ◌≤◌, List, [], ◌∷◌, ◌++◌, length, slice_set, Some, None, true, ⊤}
+use Rattle.std.specs.Prelude.{◌≡◌, ◌≢◌, ℕ, ◌+◌, ◌-◌, ◌*◌, ◌<◌, ◌≤◌, List, [], ◌∷◌, ◌++◌, length, slice_set, Bool, Some, None, true, ⊤}
 use Rattle.change_log.specs.History.{Legal}
 use Rattle.change_log.specs.declared.call.Answer.{Answer}
 use Rattle.change_log.specs.declared.call.Call.{Call}
@@ -30,8 +30,8 @@ use Rattle.world.specs.declared.stops.OpenStop.TheVariants as opening
 use Rattle.world.specs.declared.stops.WorldStop.{WorldStop}
 use Rattle.world.specs.declared.stops.WorldStop.TheVariants as stop
 
-abbrev pub world_of : Seated → List OpenerState → List Answer → WorldState
-world_of s openers answers = record { region = s.region; openers = openers; answers = answers }
+abbrev pub world_of : Seated → List OpenerState → List Answer → Bool → WorldState
+world_of s openers answers noted = record { region = s.region; openers = openers; answers = answers; noted = noted }
 
 -- an opener of this number that has made no call
 abbrev pub new_opener : ℕ → OpenerState
@@ -43,6 +43,7 @@ pub record Opens (who : ℕ) (old new : WorldState) : Type 0 where
   pub least : length old.openers < 64
   pub openers : new.openers ≡ old.openers ++ new_opener who ∷ []
   pub answers : new.answers ≡ old.answers
+  pub noted : new.noted ≡ old.noted
   pub region : new.region ≡ with_account old.region who (after_admission (account_of old.region.accounts who))
 
 -- why an opener was not let in
@@ -66,6 +67,7 @@ pub record BeginsCall (who : ℕ) (asked : Call) (now : ℕ) (o next : OpenerSta
   pub openers : new.openers ≡ slice_set old.openers (who - 1) next
   pub answers : new.answers ≡ old.answers
   pub region : new.region ≡ old.region
+  pub noted : new.noted ≡ old.noted
 
 abbrev pub Begun : ℕ → Call → ℕ → WorldState → WorldState → Type 0
 Begun who asked now old new = (o next : OpenerState) × BeginsCall who asked now o next old new
@@ -82,6 +84,7 @@ pub record Steps (who : ℕ) (o next : OpenerState) (came : Step) (old new : Wor
   pub openers : new.openers ≡ slice_set old.openers (who - 1) next
   pub answers : new.answers ≡ old.answers ++ answers_by came
   pub start : new.region.start ≡ old.region.start
+  pub noted : new.noted ≡ old.noted
   pub makes : MakesOne (share_of old.region who) (share_of new.region who)
   pub adds : AddsTo o.who o.work came next.work (share_of old.region who) (share_of new.region who)
   pub call : KeepsWork o came next

@@ -15,11 +15,13 @@ use Rattle.opener.specs.State.{OpenerState}
 use Rattle.opener.specs.declared.work.Work.{Work}
 use Rattle.opener.specs.declared.work.Work.TheVariants.{Idle, Ended, Runs}
 
--- the region, the openers in the order of their numbers, and what they answered, the first answer first
+-- the region, the openers in the order of their numbers, what they answered, the first answer first, and whether the map that the region
+-- showed at its start was noted
 pub record WorldState : Type 0 where
   pub region : Local
   pub openers : List OpenerState
   pub answers : List Answer
+  pub noted : Bool
 
 -- the share with which this opener makes its calls
 abbrev pub share_of : Local → ℕ → ShareState
