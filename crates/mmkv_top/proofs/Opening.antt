@@ -245,7 +245,7 @@ none_in l fresh w least = ap (λ accounts. (account_of accounts w).admitted) fre
     beyond : (w : ℕ) → 1 ≤ w → nat_le w 0 ≡ false
     beyond w least = grind (arith, nat_tests)
 
-pub no_lines : (stock : Stock) (l : Local) (w : WorldState) → w ≡ record { region = l; openers = []; answers = [] } → l.past ≡ [] → l.accounts ≡ replicate 65 no_account → l.failing.listed ≡ [] →
+pub no_lines : (stock : Stock) (l : Local) (w : WorldState) → w ≡ record { region = l; openers = []; answers = []; noted = false } → l.past ≡ [] → l.accounts ≡ replicate 65 no_account → l.failing.listed ≡ [] →
     IsAt stock stock w.region.start [] (play_state w [])
 no_lines stock l w is past accounts listed =
     subst (λ (v : WorldState). IsAt stock stock v.region.start [] (play_state v [])) (sym is)

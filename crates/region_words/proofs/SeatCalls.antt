@@ -2,7 +2,9 @@
 use Rattle.std.proofs.Common.{◌≡◌, ◌≢◌, ℕ, ◌+◌, ◌-◌, ◌≤◌, ◌<◌, Bool, true, false, eqb, List, [], ◌∷◌, ◌++◌, length, set, refl, sym, subst, ap, ◌∙◌, arith, inl, inr, ◌⊎◌, ◌&&◌, ◌||◌, not}
 use Rattle.std.proofs.lemmas.Bool.Decides.{eqb_tells, nat_tests}
 use Rattle.std.specs.Prelude.{Option, Some, None, nat_lt, Contains}
+use base.Stored.{coded_list, coded_ℕ}
 use Rattle.lock_rules.specs.Locks.{MayTake}
+use Rattle.lock_rules.specs.declared.limits.TheConstants.{MOST_OPENERS}
 use Rattle.lock_rules.specs.declared.table.LockKind.{LockKind}
 use Rattle.lock_rules.specs.declared.table.LockKind.TheVariants.{Exclusive}
 use Rattle.region_words.specs.Past.{region_after, locks_after, has_died, is_death}
@@ -20,6 +22,7 @@ use Rattle.region_words.specs.declared.event.Side.TheVariants.{Meta}
 use Rattle.region_words.specs.declared.event.Mark.{Mark}
 use Rattle.region_words.specs.declared.event.What.{What}
 use Rattle.region_words.specs.declared.event.What.TheVariants.{Store, Grow, Lock, Unlock, Died}
+use Rattle.region_words.proofs.Beside.{beside_same}
 use Rattle.region_words.proofs.LockOf.{exclusive_holds, lock_other, lock_without, lock_with}
 use Rattle.region_words.proofs.Accounts.{kept_few, own_account, other_account, local_account, local_event, held_places, not_dead, now_dead, free_holds_none, counted, reserved_account}
 use Rattle.region_words.proofs.Permits.{may_die}
@@ -68,7 +71,7 @@ same_share who l k a m =
       alone = refl;
       turnless = refl;
       fails = ap Some m.listed;
-      tag = refl;
+      tag = ap (coded_list coded_ℕ).code (beside_same who l.accounts k.accounts MOST_OPENERS m.others);
       admitted = moved_admitted who l k a m;
       reserved = λ w apart.
           ap (λ (x : Account). x.kept - (1 + unlock_place (lock_after k.past w))) (m.others w apart)

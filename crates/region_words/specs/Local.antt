@@ -1,6 +1,6 @@
 -- A region in memory: where it started, what has happened, and what is kept for its openers.
-use Rattle.std.specs.Prelude.{◌≡◌, ◌≢◌, ℕ, ◌+◌, ◌-◌, ◌<◌, ◌≤◌, Bool, true, false, List, [], ◌∷◌, length, replicate, Option, Some, None, not, ◌&&◌, ◌||◌, nat_lt, max, slice_index_or, slice_set, ⊤}
-use base.Stored.{coded_ℕ}
+use Rattle.std.specs.Prelude.{◌≡◌, ◌≢◌, ℕ, ◌+◌, ◌-◌, ◌<◌, ◌≤◌, zero, suc, Bool, true, false, List, [], ◌∷◌, length, replicate, Option, Some, None, not, ◌&&◌, ◌||◌, ◌==◌, if◌then◌else◌, nat_lt, max, slice_index_or, slice_set, ⊤}
+use base.Stored.{coded_list, coded_ℕ}
 use Rattle.lock_rules.specs.Locks.{Locks, MayTake, IsLeastAgainst}
 use Rattle.lock_rules.specs.declared.limits.TheConstants.{MOST_OPENERS}
 use Rattle.lock_rules.specs.declared.table.Tried.{Tried}
@@ -147,7 +147,12 @@ pub record Seated : Type 0 where
   pub who : ℕ
   pub region : Local
 
--- it stands for a share that is alone and tells everything
+-- how often the openers from n down to 1 have loaded, but for one of them
+unfoldable pub loads_beside : ℕ → List Account → ℕ → List ℕ
+loads_beside who accounts zero = []
+loads_beside who accounts (suc n) = (if suc n == who then 0 else (account_of accounts (suc n)).loads) ∷ loads_beside who accounts n
+
+-- It stands for a share that is alone and tells everything. None of its calls is counted for another opener.
 abbrev pub seat_state : Seated → ShareState
 seat_state s =
     let l = s.region in
@@ -165,7 +170,7 @@ seat_state s =
       fails = Some l.failing.listed;
       calls = l.failing.made;
       counts = record { faults = a.faults; loads = a.loads; busy = a.busy; turns = 0 };
-      tag = coded_ℕ.code 0;
+      tag = (coded_list coded_ℕ).code (loads_beside s.who l.accounts MOST_OPENERS);
     }
 
 -- what the fields of a region in memory say: the bytes and the locks are those after the events, and there is memory for the places kept

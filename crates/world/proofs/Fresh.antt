@@ -1,5 +1,5 @@
 -- A world without openers.
-use Rattle.std.proofs.Common.{◌≡◌, ℕ, zero, suc, ◌+◌, ◌≤◌, Bool, true, false, not, List, [], length, refl, sym, ap, ◌∙◌, subst, arith, replicate}
+use Rattle.std.proofs.Common.{◌≡◌, ℕ, zero, suc, ◌+◌, ◌<◌, ◌≤◌, Bool, true, false, not, List, [], ◌∷◌, length, refl, sym, ap, ◌∙◌, subst, arith, replicate}
 use Rattle.std.specs.Prelude.{◌&&◌, if◌then◌else◌}
 use Rattle.std.proofs.lemmas.List.Elements.{All-nil}
 use Rattle.change_log.specs.declared.call.Answer.{Answer}
@@ -11,6 +11,7 @@ use Rattle.region_words.specs.Share.{lock_of, places_for, places_kept, unlock_pl
 use Rattle.region_words.specs.declared.account.Account.{Account}
 use Rattle.region_words.specs.declared.event.Event.{Event}
 use Rattle.region_words.proofs.Totals.{total_none}
+use Rattle.opener.specs.State.{OpenerState}
 use Rattle.world.specs.World.{IsWorld}
 
 -- nobody has been let in
@@ -45,3 +46,11 @@ world_of_none l s is past accounts accepted =
       theirs = All-nil (λ (a : Answer). (1 ≤ a.who) × (a.who ≤ 0));
       roomy = omega (arith, no_places l.accounts (reserved_in l) l.past accounts, ap length past);
     })
+
+-- where no opener was opened, nothing was made
+pub nothing_made : (l : Local) (openers : List OpenerState) (answers : List Answer) → openers ≡ [] → IsWorld l openers answers → l.past ≡ []
+nothing_made l openers answers none world = go l.past world.lawful (λ who some. (world.unused who (omega (arith, ap length none, some))).silent)
+  where
+    go : (past : List Event) → Lawful l.start past → ((who : ℕ) → 0 < who → NoneOf who past) → past ≡ []
+    go [] lawful none = refl
+    go (e ∷ past) lawful none = absurd ((none e.who (omega (arith, lawful.1.maker.0))).0 refl)

@@ -1,7 +1,6 @@
 -- Openers at their places, and answers by their openers.
 use Rattle.std.proofs.Common.{◌≡◌, ◌≢◌, ℕ, zero, suc, ◌+◌, ◌<◌, ◌≤◌, ◌⊎◌, Bool, true, false, cond, eqb, List, [], ◌∷◌, ◌++◌, length, set, refl, sym, ap, ◌∙◌, inl, inr, arith, ne_eqb, eq-eqb, append-nil}
 use Rattle.std.specs.Prelude.{Some, slice_get, filter, ⊤}
-use Rattle.std.specs.List.{AllByRecursion}
 use Rattle.std.proofs.lemmas.List.Elements.{filter-append}
 use Rattle.change_log.specs.EachCaller.{answers_of}
 use Rattle.change_log.specs.declared.call.Answer.{Answer}
@@ -9,7 +8,6 @@ use Rattle.opener.specs.Settles.{answers_by}
 use Rattle.opener.specs.State.{OpenerState}
 use Rattle.opener.specs.declared.calls.Step.{Step}
 use Rattle.opener.specs.declared.calls.Step.TheVariants as step
-use Rattle.opener.specs.declared.work.Work.{Work}
 use Rattle.region_words.specs.Past.{NoneOf}
 use Rattle.region_words.specs.declared.event.Event.{Event}
 use Rattle.world.specs.World.{calls_running, runs_call}

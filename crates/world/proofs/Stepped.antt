@@ -1,6 +1,6 @@
 -- A world after a move of one of its openers.
-use Rattle.std.proofs.Common.{◌≡◌, ◌≢◌, ℕ, ◌+◌, ◌-◌, ◌<◌, ◌≤◌, ◌⊎◌, Bool, true, false, eqb, List, [], ◌∷◌, ◌++◌, length, set, refl, sym, ap, ◌∙◌, inl, inr, subst, arith, append-nil, length-append}
-use Rattle.std.specs.Prelude.{Some, None, All, Option, slice_get}
+use Rattle.std.proofs.Common.{◌≡◌, ◌≢◌, ℕ, ◌+◌, ◌-◌, ◌<◌, ◌≤◌, ◌⊎◌, true, false, eqb, List, [], ◌∷◌, ◌++◌, length, set, refl, sym, ap, ◌∙◌, inl, inr, subst, arith, append-nil, length-append}
+use Rattle.std.specs.Prelude.{Some, All, slice_get}
 use Rattle.std.proofs.lemmas.Bool.Decides.{eqb_tells}
 use Rattle.std.proofs.lemmas.List.{length-set}
 use Rattle.std.proofs.lemmas.List.Elements.{All-append, All-cons, All-nil, All-weaker}
@@ -16,11 +16,15 @@ use Rattle.region_words.specs.Share.{unlock_place}
 use Rattle.region_words.specs.declared.account.Account.{Account}
 use Rattle.region_words.specs.declared.event.Event.{Event}
 use Rattle.region_words.proofs.Accounts.{other_account}
+use Rattle.opener.specs.Fresh.{CountedBy, CountsSoFar}
 use Rattle.opener.specs.Opener.{KeepsCall, KeepsWork, MakesOne, Tied}
 use Rattle.opener.specs.Settles.{AreSettled, BeginsSettled, Settles, answers_by}
 use Rattle.opener.specs.State.{OpenerState}
+use Rattle.opener.specs.Steps.{OnRunning}
 use Rattle.opener.specs.declared.calls.Step.{Step}
 use Rattle.opener.specs.declared.calls.Step.TheVariants as step
+use Rattle.opener.specs.declared.calls.Stop.{Stop}
+use Rattle.opener.specs.declared.calls.Stop.TheVariants as stop
 use Rattle.opener.specs.declared.work.Work.{Work}
 use Rattle.opener.specs.declared.work.Work.TheVariants.{Idle, Ended, Runs}
 use Rattle.opener.proofs.Settles.{first_settles, none_by_others}
@@ -76,6 +80,34 @@ ends_or_stays o next came (Runs running stage) is keeps = go came (at_work o nex
     go (step.Blocked holder) k = not_idle
     go (step.Stopped why) k = not_idle
 
+-- what a call has counted so far, after a step
+pub counted_on : (o next : OpenerState) (came : Step) (work : Work) → o.work ≡ work → KeepsWork o came next →
+    OnRunning o.work (λ at. CountedBy came at next.work) → CountsSoFar next.work
+counted_on o next came Idle is keeps counts = subst (λ (p : OpenerState). CountsSoFar p.work) (sym (at_work o next came Idle is keeps).1) tt
+counted_on o next came Ended is keeps counts = subst (λ (p : OpenerState). CountsSoFar p.work) (sym (at_work o next came Ended is keeps).1) tt
+counted_on o next came (Runs running stage) is keeps counts =
+    go came (at_work o next came (Runs running stage) is keeps) (subst (λ w. OnRunning w (λ at. CountedBy came at next.work)) is counts)
+  where
+    stopped_counts : (why : Stop) → KeepsCall o.who o.holds running (step.Stopped why) next → CountsSoFar next.work
+    stopped_counts stop.Fault k = subst CountsSoFar (sym k.0) tt
+    stopped_counts stop.Memory k = subst CountsSoFar (sym k.0) tt
+    stopped_counts stop.JournalFull k = subst CountsSoFar (sym k.0) tt
+    stopped_counts (stop.NotWhole seen) k = subst CountsSoFar (sym k.0) tt
+    stopped_counts (stop.Version n) k = subst CountsSoFar (sym k.0) tt
+    stopped_counts (stop.Flags n) k = subst CountsSoFar (sym k.0) tt
+    stopped_counts (stop.Full need) k = subst CountsSoFar (sym k.0) tt
+    stopped_counts stop.SequenceEnd k = subst CountsSoFar (sym k.0) tt
+    stopped_counts stop.ExpiryOff k = subst CountsSoFar (sym k.0) tt
+    stopped_counts stop.ExpiryRange k = subst CountsSoFar (sym k.0) tt
+
+    go : (s : Step) → KeepsCall o.who o.holds running s next → CountedBy s stage next.work → CountsSoFar next.work
+    go (step.Answered a) k c = subst CountsSoFar (sym k.1) tt
+    go (step.Stopped why) k c = stopped_counts why k
+    go step.Idle k c = absurd k
+    go step.Going k c = c
+    go step.Again k c = c
+    go (step.Blocked holder) k c = c
+
 -- there is room for the answers of the calls that run
 pub room_left : (openers : List OpenerState) (answers : List Answer) (i : ℕ) (o next : OpenerState) (came : Step) (room : ℕ) → slice_get openers i ≡ Some o → EndsOrStays o next came →
     length answers + calls_running openers ≤ room → length (answers ++ answers_by came) + calls_running (set openers i next) ≤ room
@@ -111,8 +143,8 @@ unused_later l k answers more who stays same is =
 -- the opener at place i made a step
 pub stepped : (l k : Local) (openers : List OpenerState) (answers : List Answer) (i : ℕ) (o next : OpenerState) (came : Step) → IsWorld l openers answers → slice_get openers i ≡ Some o →
     MakesOne (share_of l (i + 1)) (share_of k (i + 1)) → Tied next (share_of k (i + 1)) → Settles o came next (share_of l (i + 1)) (share_of k (i + 1)) → KeepsWork o came next →
-    IsWorld k (set openers i next) (answers ++ answers_by came)
-stepped l k openers answers i o next came world at makes tied settles keeps =
+    CountsSoFar next.work → IsWorld k (set openers i next) (answers ++ answers_by came)
+stepped l k openers answers i o next came world at makes tied settles keeps counted =
     record {
       few = omega (arith, len, world.few);
       accepted = tied.told.accepted;
@@ -146,6 +178,7 @@ stepped l k openers answers i o next came world at makes tied settles keeps =
           number = sym tied.who;
           tied = tied;
           settled = subst (λ all. AreSettled next all (history_of k)) (sym (own_answers (i + 1) answers came own)) (settles (answers_of (i + 1) answers) (world.each i o at).settled);
+          counted = counted;
         }))
     each j p is (inr apart) =
         let n : i + 1 ≢ j + 1 = (λ e. apart.1 (omega (arith, e))) in
@@ -154,8 +187,8 @@ stepped l k openers answers i o next came world at makes tied settles keeps =
 
 -- a call of the opener at place i was begun
 pub began : (l : Local) (openers : List OpenerState) (answers : List Answer) (i : ℕ) (o next : OpenerState) → IsWorld l openers answers → slice_get openers i ≡ Some o →
-    Tied next (share_of l (i + 1)) → BeginsSettled o next (share_of l (i + 1)) → IsWorld l (set openers i next) answers
-began l openers answers i o next world at tied settles =
+    Tied next (share_of l (i + 1)) → BeginsSettled o next (share_of l (i + 1)) → CountsSoFar next.work → IsWorld l (set openers i next) answers
+began l openers answers i o next world at tied settles counted =
     record {
       few = omega (arith, len, world.few);
       accepted = world.accepted;
@@ -174,7 +207,7 @@ began l openers answers i o next world at tied settles =
         let p_is : p ≡ next = set_is openers i o next p at (subst (λ n. slice_get (set openers i next) n ≡ Some p) (sym same.1) is) in
         subst (λ n. OpenerIs l answers (n + 1) p) same.1
         (subst (OpenerIs l answers (i + 1)) (sym p_is)
-        (record { number = sym tied.who; tied = tied; settled = settles (answers_of (i + 1) answers) (world.each i o at).settled }))
+        (record { number = sym tied.who; tied = tied; settled = settles (answers_of (i + 1) answers) (world.each i o at).settled; counted = counted }))
     each j p is (inr apart) = world.each j p (sym (set_elsewhere openers i j next apart.1) ∙ is)
 
 -- A new opener was let in.
@@ -236,4 +269,5 @@ opened l k openers answers a world room is tied =
           tied = tied;
           settled = subst (λ own. AreSettled (new_opener who) own (history_of k)) (sym unused.unanswered)
               (first_settles (new_opener who) (history_of k) refl (nothing_by k.start k.past who tied.told.agrees.lawful silent));
+          counted = tt;
         }))

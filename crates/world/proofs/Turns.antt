@@ -19,9 +19,11 @@ use Rattle.region_words.proofs.Later.{died_others, lock_others}
 use Rattle.opener.specs.Adds.{AddsTo}
 use Rattle.opener.specs.Begins.{Begins, refusal}
 use Rattle.opener.specs.Bound.{Falls, steps_left}
+use Rattle.opener.specs.Fresh.{CountedBy, CountsSoFar}
 use Rattle.opener.specs.Opener.{HasCause, IsAnswer, KeepsWork, MakesOne, OnAnswer, Tied, is_ended, lock_in}
 use Rattle.opener.specs.Settles.{AreSettled, BeginsSettled, Settles, answers_by}
 use Rattle.opener.specs.State.{OpenerState}
+use Rattle.opener.specs.Steps.{ActsAt, IsPlaceOf, KeepsImage, OnRunning, TakesTried, peek_of}
 use Rattle.opener.specs.declared.work.Work.{Work}
 use Rattle.opener.specs.declared.work.Work.TheVariants.{Idle, Ended, Runs}
 use Rattle.opener.proofs.Carry.{exclusive_if, exclusive_some}
@@ -33,7 +35,7 @@ use Rattle.world.specs.declared.moves.Moved.{Moved}
 use Rattle.world.specs.declared.moves.Moved.TheVariants as moved
 use Rattle.world.proofs.Numbered.{one_fewer_runs, within_is}
 use Rattle.world.proofs.Stays.{agrees_with, held_while, stays_by}
-use Rattle.world.proofs.Stepped.{EndsOrStays, began, ends_or_stays, opened, room_left, stepped}
+use Rattle.world.proofs.Stepped.{EndsOrStays, began, counted_on, ends_or_stays, opened, room_left, stepped}
 
 -- an opener that is turned to is tied to the seat
 pub seated : (l : Local) (turned : Seated) (openers : List OpenerState) (answers : List Answer) (i : ℕ) (o : OpenerState) → IsWorld l openers answers → slice_get openers i ≡ Some o →
@@ -53,7 +55,12 @@ pub record Made (o next : OpenerState) (came : Step) (s t : ShareState) : Type 0
   pub adds : AddsTo o.who o.work came next.work s t
   pub call : KeepsWork o came next
   pub cause : HasCause o.work came next.work s t
+  pub takes : TakesTried o.work s t
+  pub acts : OnRunning o.work (λ at. ActsAt came at o.image next.work s t)
   pub answer : OnAnswer came (λ a. OnTold t.told (λ h. IsAnswer a h.start h.past))
+  pub place : OnRunning o.work (λ at. OnAnswer came (λ a. OnTold t.told (λ h. IsPlaceOf (peek_of at) a)))
+  pub image : OnRunning o.work (λ at. KeepsImage came at o.image next t)
+  pub counts : CountsSoFar o.work → OnRunning o.work (λ at. CountedBy came at next.work)
   pub falls : Falls o.work came next.work t
   pub settles : Settles o came next s t
 
@@ -78,13 +85,17 @@ module _ (l : Local) (turned new : Seated) (openers : List OpenerState) (answers
       subst (λ w. Made o next came (share_of l (i + 1)) (share_of new.region w)) seat_same
       (subst (λ (s : Seated). Made o next came (seat_state s) (seat_state new)) is made)
 
+  counted : CountsSoFar o.work
+  counted = (world.each i o at).counted
+
   pub world_after : IsWorld new.region (set openers i next) (answers ++ answers_by came)
   world_after = stepped l new.region openers answers i o next came world at numbered.makes numbered.tied numbered.settles numbered.call
+      (counted_on o next came o.work refl made.call (made.counts counted))
 
   pub room_after : (room : ℕ) → length answers + calls_running openers ≤ room → length (answers ++ answers_by came) + calls_running (set openers i next) ≤ room
   room_after room within = room_left openers answers i o next came room at (ends_or_stays o next came o.work refl made.call) within
 
-  start_same : new.region.start ≡ l.start
+  pub start_same : new.region.start ≡ l.start
   start_same = go numbered.makes
     where
       go : MakesOne (share_of l (i + 1)) (share_of new.region (i + 1)) → new.region.start ≡ l.start
@@ -92,9 +103,9 @@ module _ (l : Local) (turned new : Seated) (openers : List OpenerState) (answers
       go (inr (left, after, few)) = after.told.start
 
   -- nothing was changed under another's hold
-  pub held_kept : (more : List Answer) →
-      HoldsAreKept (i + 1) (record { region = l; openers = openers; answers = answers }) (record { region = new.region; openers = set openers i next; answers = more })
-  held_kept more other p apart lives some =
+  pub held_kept : (more : List Answer) (noted : Bool) →
+      HoldsAreKept (i + 1) (record { region = l; openers = openers; answers = answers; noted = noted }) (record { region = new.region; openers = set openers i next; answers = more; noted = noted })
+  held_kept more noted other p apart lives some =
       let j = other - 1 in
       let is : j + 1 ≡ other = omega (arith, lives.numbered) in
       let apart' : i + 1 ≢ j + 1 = (λ e. apart (sym (e ∙ is))) in
@@ -103,20 +114,26 @@ module _ (l : Local) (turned new : Seated) (openers : List OpenerState) (answers
       (Some Exclusive) (tied.holds ∙ holds_exclusive p p.work refl lives.alive some) (exclusive_some (Some Exclusive) refl)
 
   -- all that the world says of the step
-  pub steps_are : (more : List Answer) → more ≡ answers ++ answers_by came → is_ended o.work ≡ false →
-      Steps (i + 1) o next came (record { region = l; openers = openers; answers = answers }) (record { region = new.region; openers = set openers i next; answers = more })
-  steps_are more more_is alive =
+  pub steps_are : (noted : Bool) (more : List Answer) → more ≡ answers ++ answers_by came → is_ended o.work ≡ false →
+      Steps (i + 1) o next came (record { region = l; openers = openers; answers = answers; noted = noted }) (record { region = new.region; openers = set openers i next; answers = more; noted = noted })
+  steps_are noted more more_is alive =
       let e : i + 1 - 1 ≡ i = omega arith in
       record {
         lives = lives_at openers i o at alive;
         openers = ap (λ n. set openers n next) (sym e);
         answers = more_is;
         start = start_same;
+        noted = refl;
         makes = numbered.makes;
         adds = numbered.adds;
         call = numbered.call;
         cause = numbered.cause;
+        takes = numbered.takes;
+        acts = numbered.acts;
         answer = made.answer;
+        place = made.place;
+        image = numbered.image;
+        counts = made.counts counted;
         falls = numbered.falls;
       }
 
@@ -163,15 +180,15 @@ is_moved count (step.Stopped why) said is e = let both = sym is ∙ e in cc
 -- A call is begun.
 module _ (l : Local) (turned : Seated) (openers : List OpenerState) (answers : List Answer) (i : ℕ) (o next : OpenerState) (world : IsWorld l openers answers)
     (at : slice_get openers i ≡ Some o) (is : turned ≡ record { who = i + 1; region = l }) (tied : Tied next (seat_state turned)) where
-  pub world_begun : BeginsSettled o next (seat_state turned) → IsWorld turned.region (set openers i next) answers
-  world_begun settles =
+  pub world_begun : BeginsSettled o next (seat_state turned) → CountsSoFar next.work → IsWorld turned.region (set openers i next) answers
+  world_begun settles counted =
       subst (λ (s : Seated). IsWorld s.region (set openers i next) answers) (sym is)
-      (began l openers answers i o next world at (subst (λ (s : Seated). Tied next (seat_state s)) is tied) (subst (λ (s : Seated). BeginsSettled o next (seat_state s)) is settles))
+      (began l openers answers i o next world at (subst (λ (s : Seated). Tied next (seat_state s)) is tied) (subst (λ (s : Seated). BeginsSettled o next (seat_state s)) is settles) counted)
 
-  pub calls_begun : (asked : Call) (now : ℕ) → refusal o asked ≡ None → Begins asked now (length (changes_of turned.region.past)) o next → ((words : ℕ) → steps_left words next.work ≤ 6 * words + 100) →
-      is_ended o.work ≡ false →
-      Begun (i + 1) asked now (record { region = l; openers = openers; answers = answers }) (record { region = turned.region; openers = set openers i next; answers = answers })
-  calls_begun asked now first begins few alive =
+  pub calls_begun : (noted : Bool) (asked : Call) (now : ℕ) → refusal o asked ≡ None → Begins asked now (length (changes_of turned.region.past)) o next → ((words : ℕ) → steps_left words next.work ≤ 6 * words + 100) →
+      CountsSoFar next.work → is_ended o.work ≡ false →
+      Begun (i + 1) asked now (record { region = l; openers = openers; answers = answers; noted = noted }) (record { region = turned.region; openers = set openers i next; answers = answers; noted = noted })
+  calls_begun noted asked now first begins few counts alive =
       let e : i + 1 - 1 ≡ i = omega arith in
       let region : turned.region ≡ l = ap (λ (s : Seated). s.region) is in (
         o,
@@ -181,9 +198,11 @@ module _ (l : Local) (turned : Seated) (openers : List OpenerState) (answers : L
           first = first;
           begins = subst (λ (m : Local). Begins asked now (length (changes_of m.past)) o next) region begins;
           few = few;
+          counts = counts;
           openers = ap (λ n. set openers n next) (sym e);
           answers = refl;
           region = region;
+          noted = refl;
         },
       )
 
@@ -193,7 +212,7 @@ pub world_kept : (l : Local) (turned : Seated) (openers : List OpenerState) (ans
 world_kept l turned openers answers i o next world at is same =
     subst (λ (s : Seated). IsWorld s.region (set openers i next) answers) (sym is)
     (began l openers answers i o next world at (subst (λ p. Tied p (share_of l (i + 1))) (sym same) (world.each i o at).tied)
-    (λ own settled. subst (λ p. OnTold (share_of l (i + 1)).told (AreSettled p own)) (sym same) settled))
+    (λ own settled. subst (λ p. OnTold (share_of l (i + 1)).told (AreSettled p own)) (sym same) settled) (subst (λ (p : OpenerState). CountsSoFar p.work) (sym same) (world.each i o at).counted))
 
 -- A number that nobody has: it lives, and holds nothing.
 abbrev free_by : Bool → Option LockKind

@@ -1,5 +1,5 @@
 -- What a world's calls do.
-use Rattle.std.specs.Prelude.{◌≡◌, ◌≢◌, ℕ, ◌+◌, ◌-◌, ◌*◌, ◌<◌, ◌≤◌, List, [], ◌∷◌, ◌++◌, length, slice_set, Some, None, true, ⊤}
+use Rattle.std.specs.Prelude.{◌≡◌, ◌≢◌, ℕ, ◌+◌, ◌-◌, ◌*◌, ◌<◌, ◌≤◌, List, [], ◌∷◌, ◌++◌, length, slice_set, Bool, Some, None, true, ⊤}
 use Rattle.change_log.specs.History.{Legal}
 use Rattle.change_log.specs.declared.call.Answer.{Answer}
 use Rattle.change_log.specs.declared.call.Call.{Call}
@@ -7,16 +7,18 @@ use Rattle.region_words.specs.Apart.{Apart}
 use Rattle.region_words.specs.Local.{LacksPlaces, Seated, account_of, after_admission, with_account}
 use Rattle.region_words.specs.Outcome.{AtRest, ShowsHistory}
 use Rattle.region_words.specs.Past.{NoneDies, changes_of, region_after}
-use Rattle.region_words.specs.Region.{IsAccepted, base}
+use Rattle.region_words.specs.Region.{base}
 use Rattle.region_words.specs.declared.places.AdmitStop.{AdmitStop}
 use Rattle.region_words.specs.declared.places.AdmitStop.TheVariants as admit
 use Rattle.opener.specs.Adds.{AddsTo}
 use Rattle.opener.specs.Begins.{Begins, refusal}
 use Rattle.opener.specs.Bound.{Falls, steps_left}
+use Rattle.opener.specs.Fresh.{CountedBy, CountsSoFar}
 use Rattle.opener.specs.Opener.{HasCause, IsAnswer, KeepsWork, MakesOne, OnAnswer}
 use Rattle.opener.specs.Quiet.{RestsQuietly}
 use Rattle.opener.specs.Settles.{answers_by}
 use Rattle.opener.specs.State.{OpenerState}
+use Rattle.opener.specs.Steps.{ActsAt, IsPlaceOf, KeepsImage, OnRunning, TakesTried, peek_of}
 use Rattle.opener.specs.declared.calls.Step.{Step}
 use Rattle.opener.specs.declared.calls.Step.TheVariants as step
 use Rattle.opener.specs.declared.work.Work.TheVariants.{Idle}
@@ -28,8 +30,8 @@ use Rattle.world.specs.declared.stops.OpenStop.TheVariants as opening
 use Rattle.world.specs.declared.stops.WorldStop.{WorldStop}
 use Rattle.world.specs.declared.stops.WorldStop.TheVariants as stop
 
-abbrev pub world_of : Seated → List OpenerState → List Answer → WorldState
-world_of s openers answers = record { region = s.region; openers = openers; answers = answers }
+abbrev pub world_of : Seated → List OpenerState → List Answer → Bool → WorldState
+world_of s openers answers noted = record { region = s.region; openers = openers; answers = answers; noted = noted }
 
 -- an opener of this number that has made no call
 abbrev pub new_opener : ℕ → OpenerState
@@ -41,6 +43,7 @@ pub record Opens (who : ℕ) (old new : WorldState) : Type 0 where
   pub least : length old.openers < 64
   pub openers : new.openers ≡ old.openers ++ new_opener who ∷ []
   pub answers : new.answers ≡ old.answers
+  pub noted : new.noted ≡ old.noted
   pub region : new.region ≡ with_account old.region who (after_admission (account_of old.region.accounts who))
 
 -- why an opener was not let in
@@ -60,9 +63,11 @@ pub record BeginsCall (who : ℕ) (asked : Call) (now : ℕ) (o next : OpenerSta
   pub first : refusal o asked ≡ None
   pub begins : Begins asked now (length (changes_of old.region.past)) o next
   pub few : (words : ℕ) → steps_left words next.work ≤ 6 * words + 100
+  pub counts : CountsSoFar next.work
   pub openers : new.openers ≡ slice_set old.openers (who - 1) next
   pub answers : new.answers ≡ old.answers
   pub region : new.region ≡ old.region
+  pub noted : new.noted ≡ old.noted
 
 abbrev pub Begun : ℕ → Call → ℕ → WorldState → WorldState → Type 0
 Begun who asked now old new = (o next : OpenerState) × BeginsCall who asked now o next old new
@@ -79,11 +84,17 @@ pub record Steps (who : ℕ) (o next : OpenerState) (came : Step) (old new : Wor
   pub openers : new.openers ≡ slice_set old.openers (who - 1) next
   pub answers : new.answers ≡ old.answers ++ answers_by came
   pub start : new.region.start ≡ old.region.start
+  pub noted : new.noted ≡ old.noted
   pub makes : MakesOne (share_of old.region who) (share_of new.region who)
   pub adds : AddsTo o.who o.work came next.work (share_of old.region who) (share_of new.region who)
   pub call : KeepsWork o came next
   pub cause : HasCause o.work came next.work (share_of old.region who) (share_of new.region who)
+  pub takes : TakesTried o.work (share_of old.region who) (share_of new.region who)
+  pub acts : OnRunning o.work (λ at. ActsAt came at o.image next.work (share_of old.region who) (share_of new.region who))
   pub answer : OnAnswer came (λ a. IsAnswer a new.region.start new.region.past)
+  pub place : OnRunning o.work (λ at. OnAnswer came (IsPlaceOf (peek_of at)))
+  pub image : OnRunning o.work (λ at. KeepsImage came at o.image next (share_of new.region who))
+  pub counts : OnRunning o.work (λ at. CountedBy came at next.work)
   pub falls : Falls o.work came next.work (share_of new.region who)
 
 -- this holds where a step was an answer

@@ -8,17 +8,20 @@ use Rattle.region_words.specs.Past.{NoneOf}
 use Rattle.region_words.specs.Region.{IsAccepted}
 use Rattle.region_words.specs.Share.{ShareState, most_events}
 use Rattle.region_words.specs.Told.{History}
+use Rattle.opener.specs.Fresh.{CountsSoFar}
 use Rattle.opener.specs.Opener.{Tied, is_ended}
 use Rattle.opener.specs.Settles.{AreSettled}
 use Rattle.opener.specs.State.{OpenerState}
 use Rattle.opener.specs.declared.work.Work.{Work}
 use Rattle.opener.specs.declared.work.Work.TheVariants.{Idle, Ended, Runs}
 
--- the region, the openers in the order of their numbers, and what they answered, the first answer first
+-- the region, the openers in the order of their numbers, what they answered, the first answer first, and whether the map that the region
+-- showed at its start was noted
 pub record WorldState : Type 0 where
   pub region : Local
   pub openers : List OpenerState
   pub answers : List Answer
+  pub noted : Bool
 
 -- the share with which this opener makes its calls
 abbrev pub share_of : Local → ℕ → ShareState
@@ -33,11 +36,12 @@ pub record Lives (openers : List OpenerState) (who : ℕ) (o : OpenerState) : Ty
   pub there : slice_get openers (who - 1) ≡ Some o
   pub alive : is_ended o.work ≡ false
 
--- an opener is tied to the region, and all that it answered is settled
+-- an opener is tied to the region, all that it answered is settled, and its call counts so far as its stage tells
 pub record OpenerIs (l : Local) (answers : List Answer) (who : ℕ) (o : OpenerState) : Type 0 where
   pub number : o.who ≡ who
   pub tied : Tied o (share_of l who)
   pub settled : AreSettled o (answers_of who answers) (history_of l)
+  pub counted : CountsSoFar o.work
 
 -- a number that no opener has: nothing was made or answered by it
 pub record IsUnused (l : Local) (answers : List Answer) (who : ℕ) : Type 0 where

@@ -1,6 +1,7 @@
 //! Several openers of one region in memory: whose step comes next is for the caller to say.
 #![tactic(auto)]
 
+mod base;
 mod moves;
 mod openers;
 mod stops;

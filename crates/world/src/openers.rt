@@ -1,5 +1,5 @@
 // Openers by their numbers, and what they do to the region that they share.
-ghost use Rattle.std.specs.Prelude.{◌≡◌, ◌≢◌, ◌+◌, ◌++◌, ◌∷◌, [], ◌<◌, ◌≤◌, None, IfErr, IfOk, IfSome, OnErr, OnOk, false, length, slice_get, slice_set, vec_capacity, vec_len};
+ghost use Rattle.std.specs.Prelude.{◌≡◌, ◌≢◌, ◌+◌, ◌++◌, ◌∷◌, [], ◌<◌, ◌≤◌, Bool, None, IfErr, IfOk, IfSome, OnErr, OnOk, false, length, slice_get, slice_set, vec_capacity, vec_len};
 ghost use Rattle.region_words.specs.Local.{seat_state};
 ghost use Rattle.region_words.specs.Region.{IsAccepted};
 ghost use Rattle.opener.specs.Calls.{IsBuilt};
@@ -46,8 +46,9 @@ pub(crate) fn open_one(
     requires { IsWorld seat.old.region openers.old.items answers.now.items }
     ensures world { IsWorld seat.new.region openers.new.items answers.now.items }
     ensures running { calls_running openers.new.items ≡ calls_running openers.old.items }
-    ensures ok { IfOk result (λ who. Opens who (world_of seat.old openers.old.items answers.now.items) (world_of seat.new openers.new.items answers.now.items)) }
-    ensures err { IfErr result (λ n. IsNotOpened n.why (world_of seat.old openers.old.items answers.now.items)) }
+    ensures ok { (noted : Bool) → IfOk result (λ who. Opens who (world_of seat.old openers.old.items answers.now.items noted) (world_of seat.new openers.new.items answers.now.items noted)) }
+    ensures err { (noted : Bool) → IfErr result (λ n. IsNotOpened n.why (world_of seat.old openers.old.items answers.now.items noted)) }
+    ensures start { seat.new.region.start ≡ seat.old.region.start }
     ensures same { OnErr result ((seat.new.region ≡ seat.old.region) × (openers.new.items ≡ openers.old.items)) }
 {
     let count = openers.len();
@@ -104,8 +105,9 @@ pub(crate) fn begin_at(
     requires alive { (o : OpenerState) → slice_get openers.old.items place ≡ Some o → is_ended o.work ≡ false }
     requires built { IsBuilt call }
     ensures world { IsWorld seat.new.region openers.new.items answers.now.items }
-    ensures ok { OnOk result (Begun (place + 1) call now (world_of seat.old openers.old.items answers.now.items) (world_of seat.new openers.new.items answers.now.items)) }
-    ensures err { IfErr result (λ why. IsNotBegun why (place + 1) call (world_of seat.old openers.old.items answers.now.items)) }
+    ensures ok { (noted : Bool) → OnOk result (Begun (place + 1) call now (world_of seat.old openers.old.items answers.now.items noted) (world_of seat.new openers.new.items answers.now.items noted)) }
+    ensures err { (noted : Bool) → IfErr result (λ why. IsNotBegun why (place + 1) call (world_of seat.old openers.old.items answers.now.items noted)) }
+    ensures start { seat.new.region.start ≡ seat.old.region.start }
     ensures refused { IfErr result (λ why. why ≢ WorldStop.NoOpener) }
     ensures same { OnErr result ((seat.new.region ≡ seat.old.region) × (openers.new.items ≡ openers.old.items)) }
 {
@@ -133,9 +135,10 @@ pub(crate) fn step_at(
     requires room { vec_len answers.old + calls_running openers.old.items ≤ vec_capacity answers.old }
     ensures world { IsWorld seat.new.region openers.new.items answers.new.items }
     ensures room { vec_len answers.new + calls_running openers.new.items ≤ vec_capacity answers.new }
-    ensures moves { Moves (place + 1) result (world_of seat.old openers.old.items answers.old.items) (world_of seat.new openers.new.items answers.new.items) }
+    ensures moves { (noted : Bool) → Moves (place + 1) result (world_of seat.old openers.old.items answers.old.items noted) (world_of seat.new openers.new.items answers.new.items noted) }
+    ensures start { seat.new.region.start ≡ seat.old.region.start }
     ensures lives { result ≢ Moved.NoOpener }
-    ensures held { HoldsAreKept (place + 1) (world_of seat.old openers.old.items answers.old.items) (world_of seat.new openers.new.items answers.new.items) }
+    ensures held { HoldsAreKept (place + 1) (world_of seat.old openers.old.items answers.old.items false) (world_of seat.new openers.new.items answers.new.items false) }
 {
     seat.turn_to(place as u32 + 1);
     let came = openers[place].step(seat);

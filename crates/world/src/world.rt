@@ -1,17 +1,19 @@
 // A world: a region in memory, the openers that were opened in it, and what they answered.
-ghost use Rattle.std.specs.Prelude.{◌≡◌, ◌↔◌, [], None, IfErr, IfOk, IsTrue, OnErr, OnOk, replicate};
+ghost use Rattle.std.specs.Prelude.{◌≡◌, ◌↔◌, [], None, IfErr, IfOk, IsTrue, OnErr, OnOk, false, replicate, true};
 ghost use Rattle.opener.specs.Calls.{IsBuilt};
 ghost use Rattle.opener.specs.Opener.{stop_found};
 ghost use Rattle.opener.specs.State.{OpenerState};
 ghost use Rattle.region_words.specs.Local.{no_account};
-ghost use Rattle.region_words.specs.Region.{IsAccepted};
+ghost use Rattle.region_words.specs.Region.{IsAccepted, base};
 ghost use Rattle.world.specs.World.{IsLiving, IsSound, Lives};
 ghost use Rattle.world.specs.Moves.{Begun, HoldsAreKept, IsNotBegun, IsNotOpened, IsOneHistory, Moves, Opens, RestsWithItsHistory, RestsWithoutDeath};
 
+use crate::base::start_map;
 use crate::moves::Moved;
 use crate::openers::{MOST_OPENERS, begin_at, open_one, place_of, step_at};
 use crate::stops::{NotOpened, WorldStop};
 use change_log::{Answer, Call};
+use expiring_map::{ExpiringMap, Memory};
 use handlers::Handler;
 use opener::{Opener, Stop};
 use region_words::{LocalRegion, LocalSeat};
@@ -26,21 +28,24 @@ pub struct World {
     seat: LocalSeat,
     openers: Vec<Opener>,
     answers: Vec<Answer>,
+    start_map: Option<ExpiringMap>,
 }
 
 impl Model for World {
-    ghost use Rattle.std.specs.Prelude.{◌+◌, ◌≤◌, vec_capacity, vec_len};
+    ghost use Rattle.std.specs.Prelude.{◌≡◌, ◌+◌, ◌≤◌, IfSome, is_some, vec_capacity, vec_len};
     ghost use Rattle.std.specs.Coded.{codes};
     ghost use Rattle.expiring_map.specs.contracts.map.ExpiringMap as map;
+    ghost use Rattle.region_words.specs.Region.{base};
     ghost use Rattle.world.specs.World.{IsWorld, WorldState, calls_running};
 
     ghost Value = { WorldState };
 
     ghost coded = { Prim.hlevel (codes, map.the_row.coded) };
 
-    ghost view = { λ w. record { region = w.seat.region; openers = w.openers.items; answers = w.answers.items } };
+    ghost view = { λ w. record { region = w.seat.region; openers = w.openers.items; answers = w.answers.items; noted = is_some w.start_map } };
 
-    ghost invariant = { λ w. IsWorld w.seat.region w.openers.items w.answers.items × (vec_len w.answers + calls_running w.openers.items ≤ vec_capacity w.answers) };
+    ghost invariant = { λ w. IsWorld w.seat.region w.openers.items w.answers.items × (vec_len w.answers + calls_running w.openers.items ≤ vec_capacity w.answers)
+        × IfSome w.start_map (λ m. m ≡ base w.seat.region.start) };
 }
 
 impl World {
@@ -49,7 +54,7 @@ impl World {
         requires past { region.past ≡ [] }
         requires new { region.accounts ≡ replicate 65 no_account }
         requires accepted { IsAccepted region.start }
-        ensures new { result ≡ record { region = region; openers = []; answers = [] } }
+        ensures new { result ≡ record { region = region; openers = []; answers = []; noted = false } }
         ensures sound { IsSound result }
     {
         World {
@@ -57,6 +62,30 @@ impl World {
             seat: region.seat(1),
             openers: Vec::new(alloc),
             answers: Vec::new(alloc),
+            start_map: None,
+        }
+    }
+
+    /// Notes the map that the region shows, for `base`. No opener was opened yet.
+    pub fn note_base(&mut self) -> Result<(), Memory>
+        requires { self.old.openers ≡ [] }
+        ensures sound { IsSound self.new }
+        ensures ok { OnOk result (self.new ≡ record self.old { noted = true }) }
+        ensures same { OnErr result (self.new ≡ self.old) }
+    {
+        let map = start_map(self.alloc, self.seat.region())?;
+        mem::drop(mem::replace(&mut self.start_map, Some(map)));
+        Ok(())
+    }
+
+    /// The map that the region showed at the start, which was noted: the empty one of a damaged region.
+    pub fn base(&self) -> &ExpiringMap
+        requires { self.now.noted ≡ true }
+        ensures { result.now ≡ base self.now.region.start }
+    {
+        match &self.start_map {
+            Some(map) => map,
+            None => unreachable!(),
         }
     }
 

@@ -1,5 +1,5 @@
 // Openers and their numbers.
-use crate::worlds::{finish, fresh, get, handler, numbers, put, stored};
+use crate::worlds::{finish, fresh, get, handler, noted_value, numbers, put, stored};
 use change_log::Call;
 use expiring_map::Bytes;
 use opener::{Refused, Stop};
@@ -96,4 +96,10 @@ fn a_region_is_handed_back_without_its_openers(rt: HostRuntime) -> Result<(), Fa
     assert_eq!(rt; data.len(), 4096);
     assert_eq!(rt; &data[..4], b"\x10\0\0\0".as_slice());
     Ok(())
+}
+
+#[test]
+fn the_map_at_the_start_is_noted(rt: HostRuntime) {
+    let value = noted_value(rt.alloc()).expect(&rt, "ample memory");
+    assert!(rt; value.as_slice() == b"\x03abc".as_slice());
 }

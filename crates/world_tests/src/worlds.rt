@@ -1,5 +1,5 @@
 // Worlds to test with, and what they answer.
-ghost use Rattle.std.specs.Prelude.{IfOk};
+ghost use Rattle.std.specs.Prelude.{◌≡◌, [], IfOk, IfSome};
 ghost use Rattle.opener.specs.Calls.{IsBuilt};
 
 use change_log::Call;
@@ -7,6 +7,7 @@ use expiring_map::{Bytes, Memory};
 use handlers::{Handler, Steady, Strategy};
 use region_words::{LocalRegion, shown};
 use std::alloc::{AllocError, Global};
+use std::mem;
 use test_support::{BODY, META};
 use world::{Moved, World};
 
@@ -18,13 +19,26 @@ pub(crate) fn handler(alloc: Global) -> Result<Box<dyn Handler + Send>, AllocErr
 }
 
 // A world over these files, without openers. The calls of the listed numbers fail.
-fn world_over(alloc: Global, body: &[u8], meta: &[u8], fails: &[u64]) -> Option<World> {
+fn world_over(alloc: Global, body: &[u8], meta: &[u8], fails: &[u64]) -> Option<World>
+    ensures { IfSome result (λ w. w.openers ≡ []) }
+{
     let body = body.to_vec(alloc).ok()?;
     let meta = meta.to_vec(alloc).ok()?;
     let mut region = LocalRegion::new(alloc, body, meta).ok()?;
     shown(region.data_bytes(), region.meta_bytes()).ok()?;
     region.fail_at(fails.to_vec(alloc).ok()?);
     Some(World::new(alloc, region))
+}
+
+// The value of the one pair in the map that is noted at the start, where memory is ample.
+pub(crate) fn noted_value(alloc: Global) -> Option<Vec<u8>> {
+    let mut world = world_over(alloc, &BODY, &META, &[])?;
+    let value = match world.note_base() {
+        Ok(()) => world.base().value_at(b"k", 100)?.to_vec(alloc).ok(),
+        Err(_) => None,
+    };
+    mem::drop(world);
+    value
 }
 
 // So many openers more.

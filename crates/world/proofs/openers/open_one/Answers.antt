@@ -1,6 +1,5 @@
-use Rattle.std.proofs.Common.{◌≡◌, ◌<◌, ◌+◌, ◌++◌, ◌∷◌, [], true, length, sym, ap, ◌∙◌, subst, arith}
+use Rattle.std.proofs.Common.{◌≡◌, ◌+◌, ◌++◌, ◌∷◌, [], true, length, sym, ap, ◌∙◌, subst, arith}
 use Rattle.region_words.specs.Local.{Seated, account_of, after_admission, with_account}
-use Rattle.opener.specs.State.{OpenerState}
 use Rattle.opener.specs.Opener.{Tied}
 use Rattle.region_words.specs.Local.{seat_state}
 use Rattle.world.specs.Moves.{new_opener}

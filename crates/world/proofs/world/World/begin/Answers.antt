@@ -1,6 +1,6 @@
-use Rattle.std.proofs.Common.{◌≡◌, length, sym, ap, subst, arith, ◌∙◌}
-use Rattle.std.specs.Prelude.{Some, slice_get}
-use Rattle.world.specs.World.{Lives, WorldState, calls_running}
+use Rattle.std.proofs.Common.{IfSome, ◌≡◌, ap, sym, subst, arith, ◌∙◌}
+use Rattle.region_words.specs.Region.{base}
+use Rattle.world.specs.World.{Lives, WorldState}
 use Rattle.world.proofs.Numbered.{few_run, within_is}
 use Rattle.world.proofs.Turns.{lives_at}
 use Rattle.world.proofs.world.World.begin.Goals as goal
@@ -18,4 +18,8 @@ returns-in_default-reserve-clause-err g c =
 
 pub invariant_of-self-2 : goal.invariant_of-self-2
 invariant_of-self-2 g c =
-    (c.begin_at.ensures.world, omega (arith, few_run c.begin_at.new.openers.items, c.begin_at.ensures.world.few, c.reserve.ensures.len, c.in-Ok.ensures.ok))
+    let inside = c.self.inside in (
+      c.begin_at.ensures.world,
+      omega (arith, few_run c.begin_at.new.openers.items, c.begin_at.ensures.world.few, c.reserve.ensures.len, c.in-Ok.ensures.ok),
+      subst (λ r. IfSome inside.start_map (λ m. m ≡ base r)) (sym c.begin_at.ensures.start) c.self.invariant.2,
+    )

@@ -1,6 +1,5 @@
 use Rattle.std.proofs.Common.{◌↔◌, ◌∙◌, ap, sym, subst}
 use Rattle.std.specs.Prelude.{IsTrue, is_some}
-use Rattle.opener.specs.State.{OpenerState}
 use Rattle.world.specs.World.{IsLiving, WorldState}
 use Rattle.world.proofs.Turns.{lives_some}
 use Rattle.world.proofs.world.World.lives.Goals as goal
