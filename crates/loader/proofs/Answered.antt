@@ -1,11 +1,12 @@
 -- What the answers of the first loads tell of their region.
-use Rattle.std.proofs.Common.{◌≡◌, ℕ, zero, suc, ◌+◌, ◌*◌, ◌<◌, List, [], ◌∷◌, length, sym, ap, ◌∙◌, arith, get_or-take}
-use Rattle.std.specs.Prelude.{slice_index, slice_set, slice_index_or, ◌==◌}
+use Rattle.std.proofs.Common.{◌≡◌, ℕ, zero, suc, ◌+◌, ◌*◌, ◌<◌, List, [], ◌∷◌, length, refl, sym, subst, ap, ◌∙◌, arith, get_or-take}
+use Rattle.std.specs.Prelude.{IsOk, slice_index, slice_set, slice_index_or, ◌==◌}
 use Rattle.std.proofs.Math.Seq.{take-suc-set, take-suc}
 use Rattle.crc_words.specs.Crc.{crc}
-use Rattle.region_words.specs.Region.{Region, header, record_of, file_size, payload_of}
+use Rattle.meta_record.specs.Records.{checked}
+use Rattle.region_words.specs.Region.{Region, IsAccepted, header, record_of, file_size, payload_of}
 use Rattle.region_words.specs.Standings.{standing_of, tail_of}
-use Rattle.loader.specs.FirstWords.{AreFirst, first_answers, record_in, header_in, size_in, standing_in}
+use Rattle.loader.specs.FirstWords.{AreFirst, HasAccepted, first_answers, record_in, header_in, size_in, standing_in}
 use Rattle.region_words.specs.declared.event.Side.{Side}
 use Rattle.region_words.specs.declared.event.Side.TheVariants.{Data}
 use Rattle.loader.specs.declared.first_words.FirstWords.{FirstWords}
@@ -44,6 +45,9 @@ module _ (f : FirstWords) (r : Region) (made : f.made ≡ 10) (a : AreFirst f r)
 
   pub header-is : header_in f ≡ header r
   header-is = at 9 (omega arith)
+
+  pub accepted-is : HasAccepted f → IsAccepted r
+  accepted-is ok = subst (λ z. IsOk (checked z (header r))) record-is (subst (λ h. IsOk (checked (record_in f) h)) header-is (subst IsOk (sym ok) refl))
 
   pub standing-is : (payload : List ℕ) (checksum : ℕ) (n : ℕ) → payload ≡ payload_of r n → length payload ≡ n → checksum ≡ crc (payload_of r n) →
       standing_in f payload checksum ≡ standing_of r n

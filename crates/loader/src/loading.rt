@@ -1,6 +1,6 @@
 // A full load of a region: one load of a shared region a step.
 ghost use Rattle.std.specs.Prelude.{◌≡◌, ◌≢◌, ◌+◌, ◌/◌, ◌<◌, ◌≤◌, None, true, false, slice_index, IfOk, IfErr, OnOk, OnErr};
-ghost use Rattle.region_words.specs.Region.{Region, IsRegion, file_size};
+ghost use Rattle.region_words.specs.Region.{Region, IsAccepted, IsRegion, file_size};
 ghost use Rattle.region_words.specs.Past.{region_after};
 ghost use Rattle.region_words.specs.Told.{OnTold};
 ghost use Rattle.region_words.specs.Share.{IsSound, Goes, Stops, loaded};
@@ -80,6 +80,7 @@ impl Loading {
         ensures answered { OnOk result (OnTold (S.state share.new).told (λ h. size_in self.new.first ≡ file_size (region_after h.start h.past))) }
         ensures done { IfOk result (λ went. Says went self.new) }
         ensures accepted { OnOk result (10 ≤ loads_of self.new → HasAccepted self.new.first) }
+        ensures accepts { OnOk result (10 ≤ loads_of self.new → OnTold (S.state share.new).told (λ h. IsAccepted (region_after h.start h.past))) }
         ensures many { OnOk result (is_done self.new ≡ true → 10 ≤ loads_of self.new) }
         ensures told { OnOk result (OnTold (S.state share.new).told (λ h. HasLoaded self.new (region_after h.start h.past))) }
         ensures err { IfErr result (λ stop. StopsLoading stop (S.state share.old) (S.state share.new)) }
@@ -178,6 +179,7 @@ impl Loading {
         ensures done { Says result self.now }
         ensures bound { loads_of self.now ≤ 10 + size_in self.now.first / 4 }
         ensures accepted { 10 ≤ loads_of self.now → HasAccepted self.now.first }
+        ensures made { 10 ≤ loads_of self.now → self.now.first.made ≡ 10 }
         ensures many { is_done self.now ≡ true → 10 ≤ loads_of self.now }
     {
         match self.outlook {

@@ -106,7 +106,7 @@ unfolding shortest
 begins m = (11, shows, (lit< tt, lit≤ tt), appendable, λ need e. absurd cc)
 
 coming : IsComing sample lock 1 (Append put) stores
-coming = record { phase = Between None; reached = (Between None, refl, refl); next = (begins (map_after sample lock), sym (row (map_after sample lock))) }
+coming = record { phase = Between None; reached = (Between None, refl, refl); next = (begins (map_after sample lock), sym (row (map_after sample lock)), refl) }
 
 storable : AreStorable sample 1 stores
 storable = (

@@ -113,7 +113,7 @@ coming =
     record {
       phase = Between None;
       reached = (Between None, refl, refl);
-      next = subst (λ m. MayComeNext sample m 1 (Between None) (Pack 100 7) stores) (sym no_pairs) (begins, sym row);
+      next = subst (λ m. MayComeNext sample m 1 (Between None) (Pack 100 7) stores) (sym no_pairs) (begins, sym row, refl);
     }
 
 storable : AreStorable sample 1 stores

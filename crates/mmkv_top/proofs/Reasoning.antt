@@ -77,10 +77,10 @@ holds_of_same why asked asked' now now' begun begun' start past call moment coun
 -- What a step finds, or comes to.
 module _ (c : Call) (at : Stage) (s t : Seated) (since : c.begun ≤ length (changes_of t.region.past)) where
   reason_holds : (why : Stop) → HasReason (Runs c at) why (seat_state s) (seat_state t) → StopHolds why c.call c.now c.begun t.region.start t.region.past
-  reason_holds (stop.Full need) reason said = record { later = []; earlier = t.region.past; is = refl; since = since; first = reason }
-  reason_holds stop.SequenceEnd reason said = record { later = []; earlier = t.region.past; is = refl; since = since; first = reason }
-  reason_holds stop.ExpiryOff reason said = record { later = []; earlier = t.region.past; is = refl; since = since; first = reason }
-  reason_holds stop.ExpiryRange reason said = record { later = []; earlier = t.region.past; is = refl; since = since; first = reason }
+  reason_holds (stop.Full need) reason said = record { later = []; earlier = t.region.past; is = refl; since = since; first = reason.1 }
+  reason_holds stop.SequenceEnd reason said = record { later = []; earlier = t.region.past; is = refl; since = since; first = reason.1 }
+  reason_holds stop.ExpiryOff reason said = record { later = []; earlier = t.region.past; is = refl; since = since; first = reason.1 }
+  reason_holds stop.ExpiryRange reason said = record { later = []; earlier = t.region.past; is = refl; since = since; first = reason.1 }
   reason_holds stop.Fault reason said = absurd cc
   reason_holds stop.Memory reason said = absurd cc
   reason_holds stop.JournalFull reason said = absurd cc

@@ -16,7 +16,7 @@ use Rattle.region_words.specs.Apart.{Apart}
 use Rattle.region_words.specs.Local.{Seated, seat_state}
 use Rattle.region_words.specs.Outcome.{AtRest}
 use Rattle.region_words.specs.Past.{NoneDies, region_after}
-use Rattle.region_words.specs.Region.{Region, shown}
+use Rattle.region_words.specs.Region.{Region, IsAccepted, shown}
 use Rattle.region_words.specs.declared.event.Event.{Event}
 use Rattle.region_words.proofs.Regions.{lawful_accepted}
 use Rattle.mmkv_top.specs.Progress.{FoundSaw, SawNoImage, StopSaw}
@@ -53,7 +53,7 @@ not_refused (Ok u) why ok is = absurd cc
 not_refused (Err fault) why ok is = absurd cc
 
 -- What a step finds, or comes to.
-module _ (o : OpenerState) (s t : Seated) (tied : Tied o (seat_state t)) (live : NoneDies t.region.past) where
+module _ (o : OpenerState) (s t : Seated) (tied : Tied o (seat_state t)) (ok : IsAccepted t.region.start) (live : NoneDies t.region.past) where
   saw_none : (seen : Shown) → shown (region_after t.region.start t.region.past) ≡ seen → ((n : ℕ) → seen ≢ Whole n) → (Apart t.region.start t.region.past → AtRest t.region.start t.region.past) →
       SawNoImage t.region.start t.region.past
   saw_none seen shows broken calm =
@@ -64,14 +64,14 @@ module _ (o : OpenerState) (s t : Seated) (tied : Tied o (seat_state t)) (live :
         not_whole = λ n whole. broken n (sym shows ∙ whole);
         apart = λ n began apart.
             let rest = calm apart in
-            let whole = whole_at_rest t.region.start tied.told.agrees.region tied.told.accepted t.region.past rest.0 n tied.told.agrees.lawful apart live rest.1 began in
+            let whole = whole_at_rest t.region.start tied.told.agrees.region ok t.region.past rest.0 n tied.told.agrees.lawful apart live rest.1 began in
             broken whole.0 (sym shows ∙ whole.1);
       }
 
   stop_saw : (c : Call) (at : Stage) (why : Stop) → s.region.failing.listed ≡ [] → HasReason (Runs c at) why (seat_state s) (seat_state t) → StopSaw why t.region.start t.region.past
-  stop_saw c at (stop.NotWhole seen) steady h = saw_none seen h.0 h.1 h.2
-  stop_saw c at (stop.Version n) steady h = not_refused _ _ (lawful_accepted t.region.start t.region.past tied.told.accepted tied.told.agrees.lawful) h
-  stop_saw c at (stop.Flags n) steady h = not_refused _ _ (lawful_accepted t.region.start t.region.past tied.told.accepted tied.told.agrees.lawful) h
+  stop_saw c at (stop.NotWhole seen) steady h = saw_none seen h.1.0 h.1.1 h.1.2
+  stop_saw c at (stop.Version n) steady h = not_refused _ _ (lawful_accepted t.region.start t.region.past ok tied.told.agrees.lawful) h.1
+  stop_saw c at (stop.Flags n) steady h = not_refused _ _ (lawful_accepted t.region.start t.region.past ok tied.told.agrees.lawful) h.1
   stop_saw c at stop.Fault steady h = h.due.0 steady
   stop_saw c at stop.Memory steady h = tt
   stop_saw c at stop.JournalFull steady h = tt
@@ -88,6 +88,6 @@ module _ (o : OpenerState) (s t : Seated) (tied : Tied o (seat_state t)) (live :
   stopped_saw c at (Some found) why steady saw (inr (fault, fails)) = absurd (fails.due.0 steady)
 
 -- it goes on, and has found a stop or not
-pub going_saw : (o : OpenerState) (s t : Seated) (c : Call) (at : Stage) → Tied o (seat_state t) → NoneDies t.region.past → s.region.failing.listed ≡ [] →
+pub going_saw : (o : OpenerState) (s t : Seated) (c : Call) (at : Stage) → Tied o (seat_state t) → IsAccepted t.region.start → NoneDies t.region.past → s.region.failing.listed ≡ [] →
     IfSome (stop_found o.work) (λ why. HasReason (Runs c at) why (seat_state s) (seat_state t)) → FoundSaw o.work t.region.start t.region.past
-going_saw o s t c at tied live steady h = if_some (stop_found o.work) (λ why is reason. stop_saw o s t tied live c at why steady reason) h
+going_saw o s t c at tied ok live steady h = if_some (stop_found o.work) (λ why is reason. stop_saw o s t tied ok live c at why steady reason) h

@@ -167,7 +167,6 @@ begun_tied o new asked now changes s tied built bytes none count next first is =
       told = told_and s.told (Knows o s) (λ h. changes ≡ length (changes_of h.past)) (Knows (running_as o (begun_at asked now changes) next) s)
           (λ h k e. record {
             agrees = k.agrees;
-            accepted = k.accepted;
             facts = record {
               image = k.facts.image;
               rests = λ held calm. k.facts.rests (ap (lock_in o.holds) idle.0 ∙ held) (ap is_storing idle.0);

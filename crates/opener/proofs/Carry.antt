@@ -65,6 +65,7 @@ pub image_later : (image : Option Image) (start : Region) (more past : List Even
 image_later None start more past l is = tt
 image_later (Some i) start more past l is =
     record {
+      accepted = λ apart. is.accepted (apart_front start more past apart);
       file = omega (arith, is.file, file_grows start more past l);
       firm = λ none. is.firm (fresh_before start more past l none);
       shown = λ ok apart. was_shown_later i start more past (is.shown ok (apart_front start more past apart));
@@ -267,45 +268,35 @@ carry o start others past l none at mine f =
     rests : lock_in o.holds o.work ≡ Some Exclusive → is_storing o.work ≡ false → Apart start (others ++ past) → IsCalm start (others ++ past)
     rests held calm apart = reaches_later start others past o.who (Between None) l none (mine ∙ held) (f.rests held calm (apart_front start others past apart))
 
--- what is known of one plain journal before an own event, and of the one after it, is known of the share's, whose start is accepted
-pub told_from : (o : OpenerState) (s t : ShareState) (left : Left) (E P : Region → List Event → Type 0) → Tied o s → After left s t →
-    OnTold t.told (λ k. E k.start k.past) →
-    ((start : Region) (past : List Event) → IsAccepted start → IsRegion start → Lawful start (made_by s.who left.own ++ past) → lock_after past s.who ≡ s.holds → Facts o start past →
-    E start (made_by s.who left.own ++ past) → P start (made_by s.who left.own ++ past)) →
-    OnTold t.told (λ k. IsAccepted k.start × P k.start k.past)
-told_from o s t left E P tied after learned follows =
-    told_step s.told t.told (Knows o s) (λ k. Agrees t k × E k.start k.past) (λ k. IsAccepted k.start × P k.start k.past) (Grows s.who s.alone left.own) step
-    tied.told after.told (told_and t.told (Agrees t) (λ k. E k.start k.past) _ (λ h p q. (p, q)) after.sound.told learned)
-  where
-    step : (h k : History) → Knows o s h → Grows s.who s.alone left.own h k → Agrees t k × E k.start k.past → IsAccepted k.start × P k.start k.past
-    step h k knows g both =
-        let lawful = grows_from s.who s.alone left.own h k g Lawful both.0.lawful in
-        let before = lawful_front h.start (made_by s.who left.own) (g.others ++ h.past) lawful in
-        let mine : lock_after h.past o.who ≡ lock_in o.holds o.work = ap (lock_after h.past) (sym tied.who) ∙ knows.agrees.holds ∙ tied.holds in
-        let others : NoneOf o.who g.others = subst (λ w. NoneOf w g.others) tied.who g.by_others in
-        let facts = carry o h.start g.others h.past before others tied.at mine knows.facts in
-        let lock : lock_after (g.others ++ h.past) s.who ≡ s.holds = lock_others h.start g.others h.past s.who before g.by_others ∙ knows.agrees.holds in (
-          subst IsAccepted (sym g.start) knows.accepted,
-          grows_to s.who s.alone left.own h k g P
-              (follows h.start (g.others ++ h.past) knows.accepted knows.agrees.region lawful lock facts (grows_from s.who s.alone left.own h k g E both.1)),
-        )
-
+-- what is known of one plain journal before an own event, and of the one after it, is known of the share's
 pub told_call : (o : OpenerState) (s t : ShareState) (left : Left) (E P : Region → List Event → Type 0) → Tied o s → After left s t →
     OnTold t.told (λ k. E k.start k.past) →
     ((start : Region) (past : List Event) → IsRegion start → Lawful start (made_by s.who left.own ++ past) → lock_after past s.who ≡ s.holds → Facts o start past →
     E start (made_by s.who left.own ++ past) → P start (made_by s.who left.own ++ past)) →
     OnTold t.told (λ k. P k.start k.past)
 told_call o s t left E P tied after learned follows =
-    told_map t.told _ (λ k. P k.start k.past) (λ k is. is.1) (told_from o s t left E P tied after learned (λ start past ok. follows start past))
+    told_step s.told t.told (Knows o s) (λ k. Agrees t k × E k.start k.past) (λ k. P k.start k.past) (Grows s.who s.alone left.own) step
+    tied.told after.told (told_and t.told (Agrees t) (λ k. E k.start k.past) _ (λ h p q. (p, q)) after.sound.told learned)
+  where
+    step : (h k : History) → Knows o s h → Grows s.who s.alone left.own h k → Agrees t k × E k.start k.past → P k.start k.past
+    step h k knows g both =
+        let lawful = grows_from s.who s.alone left.own h k g Lawful both.0.lawful in
+        let before = lawful_front h.start (made_by s.who left.own) (g.others ++ h.past) lawful in
+        let mine : lock_after h.past o.who ≡ lock_in o.holds o.work = ap (lock_after h.past) (sym tied.who) ∙ knows.agrees.holds ∙ tied.holds in
+        let others : NoneOf o.who g.others = subst (λ w. NoneOf w g.others) tied.who g.by_others in
+        let facts = carry o h.start g.others h.past before others tied.at mine knows.facts in
+        let lock : lock_after (g.others ++ h.past) s.who ≡ s.holds = lock_others h.start g.others h.past s.who before g.by_others ∙ knows.agrees.holds in
+        grows_to s.who s.alone left.own h k g P
+        (follows h.start (g.others ++ h.past) knows.agrees.region lawful lock facts (grows_from s.who s.alone left.own h k g E both.1))
 
 -- the share is tied to the opener that is left
-pub tied_from : (o next : OpenerState) (s t : ShareState) (left : Left) (E : Region → List Event → Type 0) → Tied o s → After left s t → next.who ≡ o.who →
+pub tied_after : (o next : OpenerState) (s t : ShareState) (left : Left) (E : Region → List Event → Type 0) → Tied o s → After left s t → next.who ≡ o.who →
     left.ended ≡ is_ended next.work → next.handled ≡ not (is_ended next.work) → left.holds ≡ lock_in next.holds next.work → next.holds ≤ 1000 → OnImage next.image IsSoundImage → IsAt next next.work → Owes next next.work t →
     OnTold t.told (λ k. E k.start k.past) →
-    ((start : Region) (past : List Event) → IsAccepted start → IsRegion start → Lawful start (made_by s.who left.own ++ past) → lock_after past s.who ≡ s.holds → Facts o start past →
+    ((start : Region) (past : List Event) → IsRegion start → Lawful start (made_by s.who left.own ++ past) → lock_after past s.who ≡ s.holds → Facts o start past →
     E start (made_by s.who left.own ++ past) → Facts next start (made_by s.who left.own ++ past)) →
     Tied next t
-tied_from o next s t left E tied after who ended handled holds deep sound at owes learned follows =
+tied_after o next s t left E tied after who ended handled holds deep sound at owes learned follows =
     record {
       who = after.same.who ∙ tied.who ∙ sym who;
       maker = subst (λ w. (1 ≤ w) × (w ≤ 64)) (sym who) tied.maker;
@@ -316,18 +307,9 @@ tied_from o next s t left E tied after who ended handled holds deep sound at owe
       sound = sound;
       at = at;
       owes = owes;
-      told = told_and t.told (Agrees t) (λ k. IsAccepted k.start × Facts next k.start k.past) (Knows next t) (λ k a f. record { agrees = a; accepted = f.0; facts = f.1 }) after.sound.told
-          (told_from o s t left E (Facts next) tied after learned follows);
+      told = told_and t.told (Agrees t) (λ k. Facts next k.start k.past) (Knows next t) (λ k a f. record { agrees = a; facts = f }) after.sound.told
+          (told_call o s t left E (Facts next) tied after learned follows);
     }
-
-pub tied_after : (o next : OpenerState) (s t : ShareState) (left : Left) (E : Region → List Event → Type 0) → Tied o s → After left s t → next.who ≡ o.who →
-    left.ended ≡ is_ended next.work → next.handled ≡ not (is_ended next.work) → left.holds ≡ lock_in next.holds next.work → next.holds ≤ 1000 → OnImage next.image IsSoundImage → IsAt next next.work → Owes next next.work t →
-    OnTold t.told (λ k. E k.start k.past) →
-    ((start : Region) (past : List Event) → IsRegion start → Lawful start (made_by s.who left.own ++ past) → lock_after past s.who ≡ s.holds → Facts o start past →
-    E start (made_by s.who left.own ++ past) → Facts next start (made_by s.who left.own ++ past)) →
-    Tied next t
-tied_after o next s t left E tied after who ended handled holds deep sound at owes learned follows =
-    tied_from o next s t left E tied after who ended handled holds deep sound at owes learned (λ start past ok. follows start past)
 
 -- no place is reserved after a call that leaves none
 pub none_reserved : (s t : ShareState) (left : Left) → After left s t → left.places ≡ 0 → t.reserved t.who ≡ 0

@@ -132,6 +132,15 @@ leaves_acts here old next how ended mid result new s t goes answers leaves = go 
     go None is = finishes_acts here old next how ended mid result new s t answers is
     go (Some kind) is = going_acts here old next (Unlock how) mid result new s t goes is
 
+-- where it is to stop, it isn't answered
+pub stops_acts : (here : Stage) (old : Option Image) (next : Running) (stop : Stop) (ended : ℕ) (mid : OpenerState) (result : Step) (new : OpenerState) (s t : ShareState) →
+    ActsAt step.Going here old (Runs next (Unlock (end.Stop stop))) s t → Leaves next (end.Stop stop) ended mid result new → ActsAt result here old new.work s t
+stops_acts here old next stop ended mid result new s t goes leaves = go next.taken leaves
+  where
+    go : (taken : Option LockKind) → LeavesBy taken next (end.Stop stop) ended mid result new → ActsAt result here old new.work s t
+    go None is = subst (λ r. ActsAt r here old new.work s t) (sym is.0) tt
+    go (Some kind) is = going_acts here old next (Unlock (end.Stop stop)) mid result new s t goes is
+
 -- and the image is kept on
 pub going_image : (here : Stage) (next : Running) (stage : Stage) (mid : OpenerState) (old : Option Image) (result : Step) (new : OpenerState) (t : ShareState) →
     (still_looks stage ≡ true → (still_looks here ≡ true) × (mid.image ≡ old)) → GoesOn next stage mid result new → KeepsImage result here old new t

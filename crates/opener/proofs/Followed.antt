@@ -23,10 +23,11 @@ use Rattle.region_words.specs.declared.event.Mark.TheVariants.{Commit}
 use Rattle.region_words.specs.declared.event.What.{What}
 use Rattle.region_words.specs.declared.event.What.TheVariants.{Store, Grow, Lock, Unlock, Died}
 use Rattle.region_words.specs.declared.event.Event.{Event}
+use Rattle.region_words.proofs.BeganAccepted.{accepted_stored}
 use Rattle.region_words.proofs.ByStanding.{append_by_known}
 use Rattle.region_words.proofs.LeftStanding.{append_leaves}
 use Rattle.region_words.proofs.OwedRows.{append_within}
-use Rattle.region_words.proofs.Regions.{All-from_Small, lawful_region}
+use Rattle.region_words.proofs.Regions.{All-from_Small, lawful_accepted, lawful_region}
 use Rattle.region_words.proofs.RowsStand.{item_bytes}
 use Rattle.region_words.proofs.StorableRows.{append_storable}
 use Rattle.region_words.proofs.Telling.{told_and, told_map, told_step}
@@ -40,7 +41,7 @@ use Rattle.opener.specs.Writes.{Follows, HasStanding, Leads, OwesPlan, commits_o
 use Rattle.opener.specs.declared.plan.Plan.TheVariants.{Append, Rewrite}
 use Rattle.opener.specs.declared.work.Running.{Running}
 use Rattle.opener.specs.declared.work.Stage.TheVariants as stage
-use Rattle.opener.proofs.Carry.{tied_from, told_from, image_later, more_changes}
+use Rattle.opener.proofs.Carry.{told_call, tied_after, image_later, more_changes}
 use Rattle.opener.proofs.Leading.{continued_below, all_firm, all_grows}
 use Rattle.opener.proofs.Planned.{append_some}
 use Rattle.opener.proofs.RowEnds.{row_shown, left_standing, left_map, left_file, left_firm}
@@ -71,9 +72,10 @@ row_over row first s t owing after left =
 
 -- a row that may begin is to come
 comes_now : (start : Region) (past : List Event) (who : ℕ) (row : Row) (events : List What) (room : Option ℕ) → events ≢ [] → Reaches start past (Between room) →
+    IsAccepted (region_after start past) →
     MayBegin (region_after start past) (map_after start past) room row → events ≡ events_of (region_after start past) (map_after start past) who row → Comes start past who row events
-comes_now start past who row [] room some reached may are = absurd (some refl)
-comes_now start past who row (what ∷ rest) room some reached may are = record { phase = Between room; reached = reached; next = (may, are) }
+comes_now start past who row [] room some reached ok may are = absurd (some refl)
+comes_now start past who row (what ∷ rest) room some reached ok may are = record { phase = Between room; reached = reached; next = (may, are, ok) }
 
 -- An append behind an image that is shown whole, of which all is known.
 module _ (r : Region) (m : Map) (who : ℕ) (s : Standing) (change : Change) (region : IsRegion r) (mine : change.maker ≡ who) (can : CanAppend s change) (shows : shown r ≡ Whole s.size)
@@ -125,7 +127,7 @@ pub record IsFollowed (who : ℕ) (change : Change) (a : Making) (map : Map) (st
   pub coming : Apart start past → Comes start past who (rows.Append change.act) a.events
   pub leads : Leads a map start past
 
-module _ (start : Region) (past : List Event) (who : ℕ) (first : What) (row : Row) (region : IsRegion start) (ok : IsAccepted start) (l : Lawful start (event_of who first ∷ past))
+module _ (start : Region) (past : List Event) (who : ℕ) (first : What) (row : Row) (region : IsRegion start) (l : Lawful start (event_of who first ∷ past))
     (over : RowOver who row first start (event_of who first ∷ past)) (b : Making) (mid : Map) (done : b.events ≡ []) (leads : Leads b mid start (event_of who first ∷ past))
     (sound : IsSoundStanding b.standing) (sum : b.standing.checksum < 2 ^ 32) (change : Change) (mine : change.maker ≡ who) (can : CanAppend b.standing change)
     (now need : ℕ) (row_is : row ≡ rows.Pack now need) (need_is : need ≡ length (item_of b.standing.flag change.act))
@@ -142,11 +144,15 @@ module _ (start : Region) (past : List Event) (who : ℕ) (first : What) (row : 
   region_now : IsRegion q
   region_now = lawful_region start later l region
 
+  -- a store was made as one of a row
+  accepted : Apart start later → IsAccepted start
+  accepted apart = accepted_stored start (event_of who first) past (Between (room_of row)) l.0 over.1 (over.0 apart)
+
   shows_now : Apart start later → shown q ≡ Whole b.standing.size
-  shows_now apart = row_shown start past who first region l over.1 (room_of row) over.0 b mid done leads ok apart
+  shows_now apart = row_shown start past who first region l over.1 (room_of row) over.0 b mid done leads (accepted apart) apart
 
   known_now : Apart start later → standing_of q b.standing.size ≡ b.standing
-  known_now apart = (left_standing b mid start later done leads ok apart).known
+  known_now apart = (left_standing b mid start later done leads (accepted apart) apart).known
 
   stored_now : AreStorable q who k.events
   stored_now =
@@ -160,7 +166,7 @@ module _ (start : Region) (past : List Event) (who : ℕ) (first : What) (row : 
       record {
         storable = stored_now;
         coming = λ apart.
-            comes_now start later who (rows.Append change.act) k.events (room_of row) (append_some b.standing change) (over.0 apart)
+            comes_now start later who (rows.Append change.act) k.events (room_of row) (append_some b.standing change) (over.0 apart) (lawful_accepted start later (accepted apart) l)
             (may_follow q (map_after start later) who b.standing change region_now mine can (shows_now apart) (known_now apart) (room_of row) need (ap room_of row_is) need_is)
             (events_are q (map_after start later) who b.standing change region_now mine can (shows_now apart) (known_now apart));
         leads = record {
@@ -201,18 +207,17 @@ module _ (o : OpenerState) (running next : Running) (r b a : Making) (map : Map)
 
   followed : OnTold t.told (λ k. IsFollowed o.who change a map k.start k.past)
   followed =
-      told_map t.told _ (λ k. IsFollowed o.who change a map k.start k.past) (λ k is. is.1)
-      (told_from (running_as o running (stage.Store (Rewrite r (Some a) map))) s t (stored first s) (RowOver t.who row first) (IsFollowed o.who change a map) tied after over
-      (λ start past ok region lawful mine facts e. at_end start past ok region lawful facts e))
+      told_call (running_as o running (stage.Store (Rewrite r (Some a) map))) s t (stored first s) (RowOver t.who row first) (IsFollowed o.who change a map) tied after over
+      (λ start past region lawful mine facts e. at_end start past region lawful facts e)
     where
-      at_end : (start : Region) (past : List Event) → IsAccepted start → IsRegion start → Lawful start (event_of s.who first ∷ past) → Facts (running_as o running (stage.Store (Rewrite r (Some a) map))) start past →
+      at_end : (start : Region) (past : List Event) → IsRegion start → Lawful start (event_of s.who first ∷ past) → Facts (running_as o running (stage.Store (Rewrite r (Some a) map))) start past →
           RowOver t.who row first start (event_of s.who first ∷ past) → IsFollowed o.who change a map start (event_of s.who first ∷ past)
-      at_end start past ok region lawful facts e =
+      at_end start past region lawful facts e =
           let plan = facts.work.1.0 in
           let sound = tied.at.2.1 in
           subst (λ k. IsFollowed o.who change k map start (event_of s.who first ∷ past)) (sym a_is)
           (subst (λ w. IsFollowed w change (appending b.standing change) map start (event_of s.who first ∷ past)) tied.who
-          (followed_now start past s.who first row region ok lawful e b plan.0 done (lead_next r b plan.0 start past s.who first made.1 stands plan.1)
+          (followed_now start past s.who first row region lawful e b plan.0 done (lead_next r b plan.0 start past s.who first made.1 stands plan.1)
           (subst IsSoundStanding (sym stands) sound.1) (subst (λ (z : Standing). z.checksum < 2 ^ 32) (sym stands) sound.2) change (follows.own.maker ∙ sym tied.who)
           (subst (λ z. CanAppend z change) (sym stands) follows.can) tied.owes.row_is.0 tied.owes.row_is.1 tied.owes.row_is.2
           (tied.owes.row_is.3.2 ∙ ap (λ (z : Standing). length (item_of z.flag change.act)) (sym stands)) map (ap (λ k. replay plan.0 (commits_of k.events)) (sym a_is) ∙ plan.2)))
@@ -245,11 +250,11 @@ module _ (o : OpenerState) (running next : Running) (r b a : Making) (map : Map)
   followed_tied =
       let same = lock.same in
       let held : lock_by o.holds next.taken ≡ lock_by o.holds running.taken = ap (lock_by o.holds) lock.taken in
-      tied_from (running_as o running (stage.Store (Rewrite r (Some a) map))) (running_as o next (stage.Store (Append a map))) s t (stored first s) (IsFollowed o.who change a map) tied after refl tied.ended tied.handled
+      tied_after (running_as o running (stage.Store (Rewrite r (Some a) map))) (running_as o next (stage.Store (Append a map))) s t (stored first s) (IsFollowed o.who change a map) tied after refl tied.ended tied.handled
       (tied.holds ∙ sym held) tied.deep tied.sound
       ((λ some. lock.taken ∙ tied.at.0 some), subst CanWrite (sym same.call) tied.at.1, (held ∙ tied.at.2.0, (subst (λ (k : Making). k.events ≢ []) (sym a_is) (append_some b.standing change), tied.at.2.1.4)))
       followed_owes followed
-      (λ start past ok region lawful mine facts e. record {
+      (λ start past region lawful mine facts e. record {
         image = image_later o.image start (event_of s.who first ∷ []) past lawful facts.image;
         rests = λ held calm. absurd (storing_not_calm calm);
         work = (

@@ -99,7 +99,6 @@ module _ (o : OpenerState) (running : Running) (stage : Stage) (s : ShareState) 
         told = told_map s.told (Knows (running_as o running stage) s) (Knows (record o { holds = holds; work = Idle }) s)
             (λ h k. record {
               agrees = k.agrees;
-              accepted = k.accepted;
               facts = record { image = k.facts.image; rests = λ held rest. k.facts.rests (exclusive_if o.holds running.taken some) calm; work = tt };
             }) tied.told;
       }

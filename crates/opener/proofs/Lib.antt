@@ -38,3 +38,4 @@ pub mod Stored
 pub mod Storing
 pub mod WriteStops
 pub mod Written
+mod RefusedRecords

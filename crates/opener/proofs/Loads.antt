@@ -1,18 +1,19 @@
 -- What an opener knows after a load.
 use Rattle.std.proofs.Common.{◌+◌, ◌≡◌, ◌≢◌, ◌≤◌, ℕ, arith, List, [], length, refl, sym, ◌∙◌, subst, ap, take_all}
-use Rattle.std.specs.Prelude.{Option, Some, None, ⊤, unwrap_or, option_and_then}
+use Rattle.std.specs.Prelude.{Option, Some, None, IsOk, ⊤, unwrap_or, option_and_then}
 use Rattle.std.specs.FinMap as fin
 use Rattle.expiring_map.specs.Map.{Map}
 use Rattle.change_log.specs.Acts.{replay}
 use Rattle.lock_rules.specs.declared.table.LockKind.{LockKind}
+use Rattle.meta_record.specs.Records.{checked}
 use Rattle.meta_record.specs.declared.record.RecordFault.{RecordFault}
 use Rattle.meta_record.specs.declared.record.RecordFault.TheVariants as fault
 use Rattle.meta_record.specs.declared.shown.Shown.{Shown}
 use Rattle.meta_record.specs.declared.shown.Shown.TheVariants as seen
-use Rattle.region_words.specs.Region.{Region, IsRegion, IsAccepted, record_of, flag, payload_of, file_size, shown, size_of, map_shown, map_in, base}
+use Rattle.region_words.specs.Region.{Region, IsRegion, IsAccepted, record_of, header, flag, payload_of, file_size, shown, size_of, map_shown, map_in, base}
 use Rattle.region_words.specs.Past.{region_after, changes_of}
 use Rattle.region_words.specs.Apart.{Apart}
-use Rattle.region_words.specs.Lawful.{Lawful, map_after}
+use Rattle.region_words.specs.Lawful.{Lawful, Between, map_after}
 use Rattle.region_words.specs.Standings.{standing_of}
 use Rattle.region_words.specs.declared.standing.Standing.{Standing}
 use Rattle.region_words.specs.Outcome.{AtRest}
@@ -20,6 +21,7 @@ use Rattle.region_words.specs.Told.{OnTold, changes_told}
 use Rattle.region_words.specs.Share.{ShareState, Goes, loaded}
 use Rattle.region_words.specs.Local.{lock_after}
 use Rattle.region_words.specs.declared.event.Event.{Event}
+use Rattle.region_words.proofs.BeganAccepted.{accepted_at_rest}
 use Rattle.region_words.proofs.MainLaw.{main_law}
 use Rattle.region_words.proofs.Notices.{kept_at_rest, whole_history}
 use Rattle.region_words.proofs.Shows.{whole_shown}
@@ -45,7 +47,7 @@ use Rattle.opener.proofs.Leaves.{LeftWith, Leaving}
 use Rattle.opener.proofs.Ready.{ReadyWith}
 use Rattle.opener.proofs.RowEnds.{has_map, whole_matches}
 use Rattle.opener.proofs.Same.{SameLock, loaded_same}
-use Rattle.opener.proofs.StepEnds.{loads_leave, loads_ready}
+use Rattle.opener.proofs.StepEnds.{loads_ready, loads_stop}
 use Rattle.opener.specs.Counted.{counted}
 use Rattle.opener.specs.Steps.{Steps}
 use Rattle.opener.proofs.Stages.{looks_on}
@@ -56,6 +58,10 @@ use Rattle.opener.proofs.Stopped.{nothing_told}
 rest_now : (o : OpenerState) (running : Running) (loading : Loading) (start : Region) (past : List Event) (who : ℕ) → Lawful start past → Facts (running_as o running (Load loading)) start past →
     (lock : Option LockKind) → lock_by o.holds running.taken ≡ lock → lock ≢ None → lock_after past who ≡ lock → Apart start past → AtRest start past
 rest_now o running loading start past who l facts lock is some mine apart = rests_locked o running (Load loading) start past who l facts refl lock is some mine apart
+
+-- a load that is done found the record accepted
+load_accepted : (found : Loaded) (r : Region) → IsLoadedWhole found → IsLoadOf found r → IsAccepted r
+load_accepted found r w is = subst (λ z. IsOk (checked z (header r))) is.rec (subst (λ h. IsOk (checked found.rec h)) is.header (subst IsOk (sym w.accepted) refl))
 
 -- a whole image has the map of the history
 module _ (start : Region) (past : List Event) (region : IsRegion start) (l : Lawful start past) (rests : Apart start past → AtRest start past) (found : Loaded)
@@ -101,9 +107,10 @@ module _ (start : Region) (past : List Event) (region : IsRegion start) (l : Law
         history = history ok apart;
       }
 
-  image_is : IsImage found.image start past
-  image_is =
+  image_is : IsLoadedWhole found → IsImage found.image start past
+  image_is w =
       record {
+        accepted = λ apart. accepted_at_rest start past (Between (rests apart).0) l (rests apart).1 (load_accepted found r w is);
         file = omega (arith, file_is);
         firm = λ none. ap (λ (s : Standing). s.version) size_is ∙ none;
         shown = λ ok apart. record { later = []; earlier = past; is = refl; shown = shown_is ok apart };
@@ -159,7 +166,7 @@ module _ (o : OpenerState) (running next : Running) (old : Loading) (result : St
   pub stop_steps : (stop : Stop) (ended : ℕ) → MayEnd (end.Stop stop) → HasReason (Runs running (Load old)) stop s t → ended ≡ changes_told t.told →
       Leaves next (end.Stop stop) ended o result new → Steps o running (Load old) result new s t
   stop_steps stop ended may reason count left =
-      loads_leave tied (λ stored none. none) o next (end.Stop stop) ended (leaving o.image tied.sound) goes more tied.at.1 tt (λ a. tt) left count refl may reason (λ so_far are. are) (λ looks. absurd cc) (λ has. tt) (stop_left stop)
+      loads_stop tied (λ stored none. none) o next stop ended (leaving o.image tied.sound) goes more tied.at.1 (λ none. absurd cc) left count refl may reason (λ so_far are. are) (λ looks. absurd cc) (stop_left stop)
       (load_left running next old t (end.Stop stop))
 
   -- the load is done
@@ -179,13 +186,16 @@ module _ (o : OpenerState) (running next : Running) (old : Loading) (result : St
             record {
               begun = omega (arith, same.same.begun, facts.work.0, e.1);
               placed = omega (arith, e.1);
-              image = image_is start past region lawful rests found e.0 n whole;
+              image = image_is start past region lawful rests found e.0 n whole sound;
               found = λ ok apart. history start past region lawful rests found e.0 n whole ok apart ∙ ap (replay (base start)) (sym (take_all place (changes_of past) (omega (arith, e.1))));
               now = λ write ok apart. shown_is start past region lawful rests found e.0 n whole ok apart;
               ends = λ reply read.
                   subst (λ w. IsLastPlace w place (length (changes_of past)) × KeepsWords w (Some found.image) start past) (sym read) (e.1, matches_is start past region lawful rests found e.0 n whole);
               rests = λ held apart. facts.rests (ap (lock_by o.holds) (sym same.taken) ∙ held) refl apart;
             }
+
+    accepted : OnTold t.told (λ h. IsAccepted (region_after h.start h.past))
+    accepted = told_map t.told (λ h. IsLoadOf found (region_after h.start h.past)) (λ h. IsAccepted (region_after h.start h.past)) (λ h is. load_accepted found (region_after h.start h.past) sound is) told
 
     seen_at_rest : OnTold t.told (λ h. (shown (region_after h.start h.past) ≡ found.shown) × (Apart h.start h.past → AtRest h.start h.past))
     seen_at_rest =
@@ -195,8 +205,9 @@ module _ (o : OpenerState) (running next : Running) (old : Loading) (result : St
 
     no_reason : (z : Shown) → ((n : ℕ) → z ≢ seen.Whole n) → found.shown ≡ z → HasReason (Runs running (Load old)) (why.NotWhole z) s t
     no_reason z other e =
-        told_map t.told (λ h. (shown (region_after h.start h.past) ≡ found.shown) × (Apart h.start h.past → AtRest h.start h.past))
-        (λ h. (shown (region_after h.start h.past) ≡ z) × ((n : ℕ) → z ≢ seen.Whole n) × (Apart h.start h.past → AtRest h.start h.past)) (λ h is. (is.0 ∙ e, other, is.1)) seen_at_rest
+        (tt, told_and t.told (λ h. (shown (region_after h.start h.past) ≡ found.shown) × (Apart h.start h.past → AtRest h.start h.past)) (λ h. IsAccepted (region_after h.start h.past))
+        (λ h. (shown (region_after h.start h.past) ≡ z) × ((n : ℕ) → z ≢ seen.Whole n) × (Apart h.start h.past → AtRest h.start h.past) × IsAccepted (region_after h.start h.past))
+        (λ h is ok. (is.0 ∙ e, other, is.1, ok)) seen_at_rest accepted)
 
     abbrev Is : Shown → Type 0
     Is z = IsLoadedBy z next found place o result new
@@ -209,7 +220,7 @@ module _ (o : OpenerState) (running next : Running) (old : Loading) (result : St
 
         go : (z : Shown) → found.shown ≡ z → Is z → Steps o running (Load old) result new s t
         go (seen.Whole n) e is =
-            loads_ready tied (λ stored none. none) mid next place place found.image (leaving (Some found.image) (sound_load found sound)) goes more tied.at.1 tt (λ how. tt) (λ a. tt) is count refl refl looks_next (λ so_far none. none) (λ looks. absurd cc)
+            loads_ready tied (λ stored none. none) mid next place place found.image (leaving (Some found.image) (sound_load found sound)) goes more tied.at.1 (λ none ten. accepted) (λ how none ten. accepted) (λ a ten. accepted) is count refl refl looks_next (λ so_far none. none) (λ looks. absurd cc)
             (λ has. omega (arith, has, last, ap (λ (r : Running). r.loads) more)) (λ has read. omega (arith, has, last, ap (λ (r : Running). r.loads) more)) (whole_ready n e) (plainly_shorter _ _ t refl (λ words. omega arith)) (load_left running next old t)
         go (seen.Header n) e is = stops (seen.Header n) (λ k both. absurd cc) e is
         go (seen.Last n) e is = stops (seen.Last n) (λ k both. absurd cc) e is
@@ -220,7 +231,7 @@ refused_ends (fault.Version n) = tt
 refused_ends (fault.Flags n) = tt
 
 -- a record that is refused is the reason to stop
-pub refused_reason : (running : Running) (old : Loading) (f : RecordFault) (s t : ShareState) → OnTold t.told (λ h. IsRefusedFor f (region_after h.start h.past)) →
+pub refused_reason : (running : Running) (old : Loading) (f : RecordFault) (s t : ShareState) → loads_of old ≡ 9 → OnTold t.told (λ h. IsRefusedFor f (region_after h.start h.past)) →
     HasReason (Runs running (Load old)) (stop_of f) s t
-refused_reason running old (fault.Version n) s t told = told
-refused_reason running old (fault.Flags n) s t told = told
+refused_reason running old (fault.Version n) s t ten told = (ten, told)
+refused_reason running old (fault.Flags n) s t ten told = (ten, told)

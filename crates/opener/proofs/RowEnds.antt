@@ -20,6 +20,7 @@ use Rattle.region_words.specs.declared.standing.Standing.{Standing}
 use Rattle.region_words.specs.declared.event.What.{What}
 use Rattle.region_words.specs.declared.event.What.TheVariants.{Store, Grow, Lock, Unlock, Died}
 use Rattle.region_words.specs.declared.event.Event.{Event}
+use Rattle.region_words.proofs.BeganAccepted.{accepted_stored}
 use Rattle.region_words.proofs.LastStore.{no_last_growth}
 use Rattle.region_words.proofs.MainLaw.{main_law, whole_law}
 use Rattle.region_words.proofs.Notices.{kept_at_rest, whole_history}
@@ -121,6 +122,7 @@ module _ (start : Region) (past : List Event) (who : ℕ) (what : What) (region 
   pub row_ended : IsImage (image_after k m) start now
   row_ended =
       record {
+        accepted = λ apart. accepted_stored start (event_of who what) past (Between room) l.0 is (reached apart);
         file = left_file k m start now none leads;
         firm = left_firm k m start now none leads;
         shown = λ ok apart. record { later = []; earlier = now; is = refl; shown = row_is_shown ok apart };

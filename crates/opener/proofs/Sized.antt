@@ -15,7 +15,7 @@ use Rattle.region_words.specs.Standings.{standing_of}
 use Rattle.region_words.specs.Told.{History, OnTold}
 use Rattle.region_words.specs.Share.{ShareState, Goes, loaded}
 use Rattle.region_words.specs.declared.event.Event.{Event}
-use Rattle.region_words.proofs.Regions.{lawful_region}
+use Rattle.region_words.proofs.Regions.{lawful_accepted, lawful_region}
 use Rattle.region_words.proofs.Telling.{told_map}
 use Rattle.loader.specs.declared.loaded.Image.{Image}
 use Rattle.opener.specs.State.{OpenerState}
@@ -32,7 +32,7 @@ use Rattle.opener.specs.declared.work.Running.{Running}
 use Rattle.opener.specs.declared.work.End.TheVariants as end
 use Rattle.opener.specs.declared.work.Stage.TheVariants.{Size, Reserve}
 use Rattle.opener.specs.declared.work.Work.TheVariants.{Runs}
-use Rattle.opener.proofs.Carry.{none_reserved, told_call, told_from, tied_from}
+use Rattle.opener.proofs.Carry.{none_reserved, told_call, tied_after}
 use Rattle.opener.proofs.Leaves.{LeftWith, Leaving}
 use Rattle.opener.proofs.Planned.{planned_reserves, planned_sound, planned_commits}
 use Rattle.opener.proofs.Starting.{IsBeside, planned_leads, planned_starts}
@@ -86,10 +86,10 @@ abbrev pub IsReason : Running → Stop → History → Type 0
 IsReason running stop h = IsAccepted h.start → Apart h.start h.past → refusal_of running.call running.now (standing (region_after h.start h.past)) (map_after h.start h.past) ≡ Some stop
 
 -- where the share tells its journal, this is known of the sized image
-pub beside_of : (o : OpenerState) (running : Running) (i : Image) (size : ℕ) (start : Region) (past : List Event) → o.image ≡ Some i → IsAccepted start → IsRegion start → Lawful start past →
+pub beside_of : (o : OpenerState) (running : Running) (i : Image) (size : ℕ) (start : Region) (past : List Event) → o.image ≡ Some i → IsRegion start → Lawful start past →
     lock_by o.holds running.taken ≡ Some Exclusive → Facts (running_as o running Size) start past → IsSoundImage i → i.standing.checksum < 2 ^ 32 → IsSize size →
     size ≡ file_size (region_after start past) → IsBeside (sized_image i size) start past
-beside_of o running i size start past kept ok region lawful lock facts sound sum is size_is =
+beside_of o running i size start past kept region lawful lock facts sound sum is size_is =
     let r = region_after start past in
     let j = sized_image i size in
     let image : IsImage i start past = subst (λ k. ImageIs k start past) kept facts.image in
@@ -101,9 +101,9 @@ beside_of o running i size start past kept ok region lawful lock facts sound sum
       sum = sum;
       file = file;
       firm = image.firm;
-      calm = λ apart. facts.rests lock refl apart;
+      calm = λ apart. (facts.rests lock refl apart, lawful_accepted start past (image.accepted apart) lawful);
       now = λ apart.
-          let s = shows ok apart in
+          let s = shows (image.accepted apart) apart in
           let stands : standing r ≡ j.standing =
           ap (λ z. standing_of r (unwrap_or (size_of z) 0)) s.kept.shows ∙ sym s.known.known ∙ ap (λ n. record i.standing { file_size = n }) (sym file) in
           record { whole = s.kept.shows; is = λ k. record { standing = stands k; map = sym s.history k } };
@@ -135,12 +135,12 @@ module _ (o : OpenerState) (running next : Running) (size : ℕ) (s t : ShareSta
         let j = sized_image i size in
         let can : CanWrite running.call = tied.at.1 in
         let fits = sized_sound i size sound is in
-        tied_from (running_as o running Size) (running_as given next (Reserve plan)) s t (loaded s) (λ start past. size ≡ file_size (region_after start past)) tied goes.after refl
+        tied_after (running_as o running Size) (running_as given next (Reserve plan)) s t (loaded s) (λ start past. size ≡ file_size (region_after start past)) tied goes.after refl
         tied.ended tied.handled (tied.holds ∙ lock) tied.deep tt
         ((λ some. taken ∙ tied.at.0 some), subst CanWrite (sym same.call) can, (sym lock ∙ tied.at.2.1, planned_reserves o.who running.call running.now j plan can fits is_plan, planned_sound o.who running.call running.now j plan can fits is_plan next same.call same.now, of_call (planned_commits o.who running.call running.now j plan can fits is_plan)))
         (none_reserved s t (loaded s) goes.after tied.owes) told
-        (λ start past ok region lawful lock_is facts e.
-        let beside = beside_of o running i size start past kept ok region lawful tied.at.2.1 facts sound sum is e in
+        (λ start past region lawful lock_is facts e.
+        let beside = beside_of o running i size start past kept region lawful tied.at.2.1 facts sound sum is e in
         record {
           image = tt;
           rests = λ held calm. facts.rests (lock ∙ held) refl;
@@ -200,11 +200,10 @@ module _ (o : OpenerState) (running next : Running) (size : ℕ) (s t : ShareSta
     found : (i : Image) → o.image ≡ Some i → i.standing.checksum < 2 ^ 32 → IsNotPlanned running.call running.now (sized_image i size) stop → OnTold t.told (λ h. IsFound h.start h.past)
     found i kept sum not =
         let sound : IsSoundImage i = subst (λ k. OnImage k IsSoundImage) kept tied.sound in
-        told_map t.told _ (λ h. IsFound h.start h.past) (λ h f. f.1)
-        (told_from (running_as o running Size) s t (loaded s) (λ start past. size ≡ file_size (region_after start past)) IsFound tied goes.after told
-        (λ start past ok region lawful lock_is facts e good apart.
-        let beside = beside_of o running i size start past kept ok region lawful tied.at.2.1 facts sound sum is e in
-        reason (image_at start past) (sized_image i size) (beside.now apart).is not))
+        told_call (running_as o running Size) s t (loaded s) (λ start past. size ≡ file_size (region_after start past)) IsFound tied goes.after told
+        (λ start past region lawful lock_is facts e good apart.
+        let beside = beside_of o running i size start past kept region lawful tied.at.2.1 facts sound sum is e in
+        reason (image_at start past) (sized_image i size) (beside.now apart).is not)
       where
         reason : (now j : Image) → now ≡ j → IsNotPlanned running.call running.now j stop → (stop ≡ why.Memory) ⊎ (refusal_of running.call running.now now.standing now.map ≡ Some stop)
         reason now j e (inl memory) = inl memory
@@ -230,7 +229,7 @@ module _ (o : OpenerState) (running next : Running) (size : ℕ) (s t : ShareSta
         by (why.NotWhole seen) is told = absurd is
         by (why.Version n) is told = absurd is
         by (why.Flags n) is told = absurd is
-        by (why.Full need) is told = other (why.Full need) (λ e. absurd cc) told
-        by why.SequenceEnd is told = other why.SequenceEnd (λ e. absurd cc) told
-        by why.ExpiryOff is told = other why.ExpiryOff (λ e. absurd cc) told
-        by why.ExpiryRange is told = other why.ExpiryRange (λ e. absurd cc) told
+        by (why.Full need) is told = (tt, other (why.Full need) (λ e. absurd cc) told)
+        by why.SequenceEnd is told = (tt, other why.SequenceEnd (λ e. absurd cc) told)
+        by why.ExpiryOff is told = (tt, other why.ExpiryOff (λ e. absurd cc) told)
+        by why.ExpiryRange is told = (tt, other why.ExpiryRange (λ e. absurd cc) told)

@@ -13,7 +13,7 @@ use Rattle.change_log.specs.declared.change.Act.{Act}
 use Rattle.change_log.specs.declared.change.Act.TheVariants as act
 use Rattle.change_log.specs.declared.change.Change.{Change}
 use Rattle.meta_record.specs.declared.shown.Shown.TheVariants.{Whole}
-use Rattle.region_words.specs.Region.{Region, IsRegion, record_of, base, file_size, flag, shown}
+use Rattle.region_words.specs.Region.{Region, IsRegion, IsAccepted, record_of, base, file_size, flag, shown}
 use Rattle.region_words.specs.Past.{region_after, after_all, changes_of}
 use Rattle.region_words.specs.Apart.{Apart}
 use Rattle.region_words.specs.Lawful.{Between, map_after}
@@ -50,15 +50,19 @@ pub record IsNow (j : Image) (start : Region) (past : List Event) : Type 0 where
   pub whole : shown (region_after start past) ≡ Whole j.standing.size
   pub is : image_at start past ≡ j
 
--- This is known of the image, whatever the checksums are; and where they tell payloads apart, it is the image that is shown, no row is
--- under way, and none has just made room.
+-- no row is under way, none has just made room, and the record is accepted: a row may begin
+abbrev pub IsOpen : Region → List Event → Type 0
+IsOpen start past = IsCalm start past × IsAccepted (region_after start past)
+
+-- This is known of the image, whatever the checksums are; and where they tell payloads apart, it is the image that is shown, and a row
+-- may begin.
 pub record IsBeside (j : Image) (start : Region) (past : List Event) : Type 0 where
   pub region : IsRegion (region_after start past)
   pub sound : IsSoundImage j
   pub sum : j.standing.checksum < 2 ^ 32
   pub file : j.standing.file_size ≡ file_size (region_after start past)
   pub firm : (record_of (region_after start past)).version ≡ 0 → j.standing.version ≡ 0
-  pub calm : Apart start past → IsCalm start past
+  pub calm : Apart start past → IsOpen start past
   pub now : Apart start past → IsNow j start past
 
 -- changes after changes
@@ -83,9 +87,9 @@ module _ (who : ℕ) (start : Region) (past : List Event) where
   m = map_after start past
 
   -- the first row begins
-  comes : (row : Row) (events : List What) → events ≢ [] → IsCalm start past → MayBegin r m None row → events ≡ events_of r m who row → Comes start past who row events
+  comes : (row : Row) (events : List What) → events ≢ [] → IsOpen start past → MayBegin r m None row → events ≡ events_of r m who row → Comes start past who row events
   comes row [] some calm may are = absurd (some refl)
-  comes row (what ∷ rest) some calm may are = record { phase = Between None; reached = calm; next = (may, are) }
+  comes row (what ∷ rest) some calm may are = record { phase = Between None; reached = calm.0; next = (may, are, calm.1) }
 
   -- an append
   may_append : (change : Change) → shown r ≡ Whole (standing r).size → CanAppend (standing r) change → MayBegin r m None (rows.Append change.act)

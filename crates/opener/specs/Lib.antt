@@ -15,3 +15,4 @@ pub mod Quick
 pub mod Lent
 pub mod Fresh
 pub mod Steps
+pub mod Refused

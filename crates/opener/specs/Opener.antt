@@ -27,7 +27,7 @@ use Rattle.region_words.specs.Share.{ShareState, Agrees, After, Left, Fails, IsT
 use Rattle.region_words.specs.declared.event.Event.{Event}
 use Rattle.region_words.specs.declared.stops.Peek.{Peek}
 use Rattle.region_words.specs.declared.stops.ShareStop.TheVariants as stop
-use Rattle.loader.specs.Loads.{HasLoaded, is_done}
+use Rattle.loader.specs.Loads.{HasLoaded, is_done, loads_of}
 use Rattle.loader.specs.Maps.{map_of_image}
 use Rattle.loader.specs.declared.loaded.Image.{Image}
 use Rattle.opener.specs.Calls.{IsPlain, IsTried, holds_after, is_write}
@@ -40,7 +40,7 @@ use Rattle.opener.specs.Writes.{CanReserve, IsSoundPlan, PlanLeads, PlanStarts, 
 use Rattle.opener.specs.declared.calls.Step.{Step}
 use Rattle.opener.specs.declared.calls.Step.TheVariants as step
 use Rattle.opener.specs.declared.calls.Stop.{Stop}
-use Rattle.opener.specs.declared.calls.Stop.TheVariants.{Fault, Memory, JournalFull, NotWhole, Version, Flags}
+use Rattle.opener.specs.declared.calls.Stop.TheVariants.{Fault, Memory, JournalFull, NotWhole, Version, Flags, Full, SequenceEnd, ExpiryOff, ExpiryRange}
 use Rattle.opener.specs.declared.work.Running.{Running}
 use Rattle.opener.specs.declared.work.End.{End}
 use Rattle.opener.specs.declared.work.End.TheVariants as end
@@ -132,9 +132,10 @@ pub record WasShown (i : Image) (start : Region) (past : List Event) : Type 0 wh
   pub is : later ++ earlier ≡ past
   pub shown : IsShown i start earlier
 
--- What is known of the image that is kept: where checksums tell payloads apart, it was shown. That the file is no shorter, and
--- has no version only where none is known, holds whatever the checksums are.
+-- What is known of the image that is kept: where checksums tell payloads apart, the start's record is accepted, and the image was
+-- shown. That the file is no shorter, and has no version only where none is known, holds whatever the checksums are.
 pub record IsImage (i : Image) (start : Region) (past : List Event) : Type 0 where
+  pub accepted : Apart start past → IsAccepted start
   pub file : i.standing.file_size ≤ file_size (region_after start past)
   pub firm : (record_of (region_after start past)).version ≡ 0 → i.standing.version ≡ 0
   pub shown : IsAccepted start → Apart start past → WasShown i start past
@@ -162,9 +163,11 @@ abbrev pub ChangeIs : ℕ → Running → ℕ → List Event → Type 0
 ChangeIs who running place past =
     IfSome (act_of running.call running.now) (λ act. slice_get (changes_of past) place ≡ Some (record { maker = who; act = act }))
 
--- What a call of this kind finds in the region is the reason to stop. Where it finds no whole image, no row is under way.
+-- What a call of this kind finds in the region is the reason to stop. Where it finds no whole image, no row is under way, and the record
+-- is accepted.
 abbrev pub StopIs : Running → Stop → Region → List Event → Type 0
-StopIs running (NotWhole seen) start past = (shown (region_after start past) ≡ seen) × ((n : ℕ) → seen ≢ Whole n) × (Apart start past → AtRest start past)
+StopIs running (NotWhole seen) start past =
+    (shown (region_after start past) ≡ seen) × ((n : ℕ) → seen ≢ Whole n) × (Apart start past → AtRest start past) × IsAccepted (region_after start past)
 StopIs running (Version n) start past = let r = region_after start past in checked (record_of r) (header r) ≡ Err (fault.Version n)
 StopIs running (Flags n) start past = let r = region_after start past in checked (record_of r) (header r) ≡ Err (fault.Flags n)
 StopIs running Memory start past = ⊤
@@ -235,7 +238,6 @@ pub record Facts (o : OpenerState) (start : Region) (past : List Event) : Type 0
 
 pub record Knows (o : OpenerState) (s : ShareState) (h : History) : Type 0 where
   pub agrees : Agrees s h
-  pub accepted : IsAccepted h.start
   pub facts : Facts o h.start h.past
 
 -- the stores to come are owed; where none are to come, no place is reserved
@@ -314,12 +316,24 @@ HasNoPlaces (Runs running (Reserve plan)) s t =
     StopsReserving (events_in plan) stop.JournalFull s t × (s.reserved s.who ≡ 0) × OnTold t.told (λ h. PlanIs s.who running plan h.start h.past)
 HasNoPlaces _ s t = ⊥
 
+-- where a call finds this in the region: that the record is refused by the tenth load, the last of the record and the header; that no
+-- image is whole once it is loaded; and why a write isn't made once the file's size is known
+abbrev pub IsFoundAt : Stage → Stop → Type 0
+IsFoundAt (Load loading) (Version n) = loads_of loading ≡ 9
+IsFoundAt (Load loading) (Flags n) = loads_of loading ≡ 9
+IsFoundAt (Load loading) (NotWhole seen) = ⊤
+IsFoundAt Size (Full need) = ⊤
+IsFoundAt Size SequenceEnd = ⊤
+IsFoundAt Size ExpiryOff = ⊤
+IsFoundAt Size ExpiryRange = ⊤
+IsFoundAt _ _ = ⊥
+
 -- why a call stops
 abbrev pub HasReason : Work → Stop → ShareState → ShareState → Type 0
 HasReason old Fault s t = Fails s t
 HasReason old Memory s t = ⊤
 HasReason old JournalFull s t = ((kind : LockKind) × IsTried old kind × StopsTrying kind stop.JournalFull s t) ⊎ HasNoPlaces old s t
-HasReason (Runs running stage) why s t = OnTold t.told (λ h. StopIs running why h.start h.past)
+HasReason (Runs running stage) why s t = IsFoundAt stage why × OnTold t.told (λ h. StopIs running why h.start h.past)
 HasReason _ why s t = ⊥
 
 -- a stop has its reason where it is found, and after that its call only gives its lock up

@@ -2,12 +2,15 @@
 use Rattle.std.specs.Prelude.{◌≡◌, ℕ, ◌+◌, Bool, true, false, not, List, Option, Some, None, ⊤}
 use Rattle.change_log.specs.declared.call.Answer.{Answer}
 use Rattle.lock_rules.specs.declared.table.LockKind.{LockKind}
+use Rattle.region_words.specs.Region.{IsAccepted}
+use Rattle.region_words.specs.Past.{region_after}
 use Rattle.region_words.specs.Images.{sequence_at}
 use Rattle.region_words.specs.Making.{MakesFirst}
 use Rattle.region_words.specs.Share.{ShareState, Goes, reserving}
 use Rattle.region_words.specs.Told.{OnTold}
 use Rattle.region_words.specs.declared.event.What.{What}
 use Rattle.region_words.specs.declared.stops.Peek.{Peek}
+use Rattle.loader.specs.Loads.{Load, loads_of}
 use Rattle.loader.specs.declared.loaded.Image.{Image}
 use Rattle.opener.specs.State.{OpenerState}
 use Rattle.opener.specs.Adds.{Adds}
@@ -15,7 +18,7 @@ use Rattle.opener.specs.Bound.{Falls}
 use Rattle.opener.specs.Calls.{IsTried, is_write}
 use Rattle.opener.specs.Ends.{is_current}
 use Rattle.opener.specs.Fresh.{CountedBy, HasCounted, answers_by_look}
-use Rattle.opener.specs.Opener.{Tied, MakesOne, KeepsCall, KeepsWords, HasCause, OnAnswer, IsAnswer, IsLastPlace}
+use Rattle.opener.specs.Opener.{Tied, MakesOne, KeepsCall, KeepsWords, HasCause, OnAnswer, IsAnswer, IsLastPlace, stop_found}
 use Rattle.opener.specs.Plans.{events_in, room_in}
 use Rattle.opener.specs.Writes.{first_events}
 use Rattle.opener.specs.declared.calls.Step.{Step}
@@ -56,11 +59,17 @@ loads_next _ = false
 abbrev pub FindsCurrent : Bool → Peek → Option Image → ShareState → Type 0
 FindsCurrent found peek image t = OnTold t.told (λ h. is_current image peek (sequence_at h.start h.past) ≡ found)
 
--- What a step that goes on, or is answered, did at its stage: the region is loaded just where a look found other words, the share is
--- asked for exactly what a plan takes, and its events are made one by one.
+-- the tenth load of a region found its record accepted
+abbrev pub FindsAccepted : Load → ShareState → Type 0
+FindsAccepted loading t = loads_of loading ≡ 9 → OnTold t.told (λ h. IsAccepted (region_after h.start h.past))
+
+-- What a step that goes on, or is answered, did at its stage: the region is loaded just where a look found other words, and loaded on
+-- only with an accepted record, the share is asked for exactly what a plan takes, and its events are made one by one.
 abbrev pub ActsAt : Step → Stage → Option Image → Work → ShareState → ShareState → Type 0
 ActsAt step.Going (stage.PeekSequence peek) image new s t = FindsCurrent (not (loads_next new)) peek image t
 ActsAt (step.Answered a) (stage.PeekSequence peek) image new s t = FindsCurrent true peek image t
+ActsAt step.Going (stage.Load loading) image new s t = stop_found new ≡ None → FindsAccepted loading t
+ActsAt (step.Answered a) (stage.Load loading) image new s t = FindsAccepted loading t
 ActsAt step.Going (stage.Reserve plan) image new s t = ReservesPlan plan new s t
 ActsAt step.Going (stage.Store plan) image new s t = StoresFirst plan (events_left new) s t
 ActsAt (step.Answered a) (stage.Store plan) image new s t = StoresFirst plan 0 s t

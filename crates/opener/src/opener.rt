@@ -10,6 +10,7 @@ ghost use Rattle.opener.specs.Bound.{Falls, steps_left};
 ghost use Rattle.opener.specs.Settles.{BeginsSettled, Settles};
 ghost use Rattle.opener.specs.Quiet.{ShowsQuietly};
 ghost use Rattle.opener.specs.Fresh.{CountedBy, CountsSoFar};
+ghost use Rattle.opener.specs.Refused.{StopsWhereRefused};
 ghost use Rattle.opener.specs.Steps.{ActsAt, IsPlaceOf, KeepsImage, OnRunning, Steps, TakesTried, peek_of};
 
 use crate::calls::{NotBegun, Refused, Step, Stop};
@@ -135,6 +136,7 @@ impl Opener {
         ensures adds { AddsTo self.old.who self.old.work result self.new.work (S.state share.old) (S.state share.new) }
         ensures call { KeepsWork self.old result self.new }
         ensures cause { HasCause self.old.work result self.new.work (S.state share.old) (S.state share.new) }
+        ensures refused { OnRunning self.old.work (λ stage. StopsWhereRefused stage result self.new.work (S.state share.new)) }
         ensures takes { TakesTried self.old.work (S.state share.old) (S.state share.new) }
         ensures acts { OnRunning self.old.work (λ stage. ActsAt result stage self.old.image self.new.work (S.state share.old) (S.state share.new)) }
         ensures answer { OnAnswer result (λ a. OnTold (S.state share.new).told (λ h. IsAnswer a h.start h.past)) }

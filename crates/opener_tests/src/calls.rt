@@ -1,8 +1,5 @@
 // Calls of a new opener, over a region in memory and over any other share.
 ghost use Rattle.std.specs.Prelude.{◌≡◌, false, None, IfOk, IfSome};
-ghost use Rattle.region_words.specs.Local.{seat_state};
-ghost use Rattle.region_words.specs.Region.{IsAccepted};
-ghost use Rattle.region_words.specs.Told.{OnTold};
 ghost use Rattle.opener.specs.Calls.{IsBuilt};
 ghost use Rattle.opener.specs.Opener.{Tied};
 
@@ -10,30 +7,15 @@ use change_log::Call;
 use expiring_map::{Bytes, Memory};
 use handlers::{Handler, Steady, Strategy};
 use opener::{Opener, Step, Stop};
-use region_words::{LocalRegion, LocalSeat, Share, shown};
+use region_words::Share;
 use std::alloc::Global;
 use std::mem;
-
-// A seat at a region of these files. Its calls of the listed numbers fail.
-pub(crate) fn seat_at(alloc: Global, body: &[u8], meta: &[u8], fails: &[u64]) -> Option<LocalSeat>
-    ensures alive { IfSome result (λ s. (seat_state s).ended ≡ false) }
-    ensures free { IfSome result (λ s. (seat_state s).holds ≡ None) }
-    ensures accepted { IfSome result (λ s. OnTold (seat_state s).told (λ h. IsAccepted h.start)) }
-{
-    let body = body.to_vec(alloc).ok()?;
-    let meta = meta.to_vec(alloc).ok()?;
-    let mut region = LocalRegion::new(alloc, body, meta).ok()?;
-    shown(region.data_bytes(), region.meta_bytes()).ok()?;
-    region.fail_at(fails.to_vec(alloc).ok()?);
-    region.admit(1).ok()?;
-    Some(region.seat(1))
-}
+use test_support::opened;
 
 // An opener that has made no call.
 pub(crate) fn opener_of<S: Share>(alloc: Global, share: &S) -> Option<Opener>
     requires alive { (S.state share.now).ended ≡ false }
     requires free { (S.state share.now).holds ≡ None }
-    requires accepted { OnTold (S.state share.now).told (λ h. IsAccepted h.start) }
     ensures { IfSome result (λ o. Tied o (S.state share.now)) }
 {
     let handler: Box<dyn Handler + Send> = Box::new(
@@ -97,7 +79,7 @@ pub(crate) fn first_end(
 ) -> Option<End>
     requires { IsBuilt call }
 {
-    let mut seat = seat_at(alloc, body, meta, fails)?;
+    let mut seat = opened(alloc, body, meta, fails)?;
     let mut opener = opener_of(alloc, &seat)?;
     let end = ask(&mut opener, &mut seat, call);
     mem::drop(opener);

@@ -1,12 +1,12 @@
 // Quick reads of an opener, over a region in memory and over a share that tells nothing.
 ghost use Rattle.opener.specs.Opener.{Tied};
 
-use crate::calls::{End, ask, get, opener_of, seat_at};
+use crate::calls::{End, ask, get, opener_of};
 use opener::{Opener, Quick, Stop};
 use region_words::Share;
 use std::alloc::Global;
 use std::mem;
-use test_support::{BODY, META, Silent};
+use test_support::{BODY, META, Silent, opened};
 
 // Whether a quick read finds the value that is wanted, or why it isn't answered. None where a call runs or the opener has ended.
 type Look = Option<Result<bool, Quick>>;
@@ -38,7 +38,7 @@ struct Looks {
 
 // Those of a new opener, whose calls on its share of the listed numbers fail.
 fn looks_of(alloc: Global, fails: &[u64]) -> Option<Looks> {
-    let mut seat = seat_at(alloc, &BODY, &META, fails)?;
+    let mut seat = opened(alloc, &BODY, &META, fails)?;
     let mut opener = opener_of(alloc, &seat)?;
     let before = finds(&mut opener, &mut seat, b"k", None);
     let end = ask(&mut opener, &mut seat, get(alloc).ok()?);

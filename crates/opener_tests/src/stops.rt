@@ -44,6 +44,35 @@ fn a_region_that_shows_no_whole_image_stops_the_call(rt: HostRuntime) {
     assert_eq!(rt; end, Some(End::Stopped(Stop::NotWhole(Shown::Header(11)))));
 }
 
+// A get over a record of this version with this low word of its flags, whose call of this number fails.
+fn end_of_record(alloc: Global, version: u8, flags: u8, fails: u64) -> Result<Option<End>, Memory> {
+    let mut meta = [0; 108];
+    meta[..40].copy_from_slice(&META);
+    meta[4] = version;
+    meta[104] = flags;
+    Ok(first_end(alloc, &BODY, &meta, &[fails], get(alloc)?))
+}
+
+#[test]
+fn a_record_that_is_refused_is_named_after_ten_loads(rt: HostRuntime) -> Result<(), Fail> {
+    let alloc = rt.alloc();
+    let refused = [
+        (9, 0, Stop::Version(9)),
+        (9, 2, Stop::Version(9)),
+        (4, 2, Stop::Flags(2)),
+    ];
+    for (version, flags, stop) in refused {
+        // a lock, ten loads, an unlock
+        for fails in 0..12u64 {
+            let end = end_of_record(alloc, version, flags, fails)?;
+            assert_eq!(rt; end, FAULT, "version {version}, call {fails}");
+        }
+        let end = end_of_record(alloc, version, flags, 12)?;
+        assert_eq!(rt; end, Some(End::Stopped(stop)));
+    }
+    Ok(())
+}
+
 #[test]
 fn a_put_wants_an_expiry_of_32_bits(rt: HostRuntime) -> Result<(), Fail> {
     let mut meta = [0; 108];

@@ -81,7 +81,7 @@ leads : Reaches sample (event_of 1 (Grow 8192) ∷ lock) (Within row later)
 leads = (
   Between None,
   (Between None, refl, refl),
-  (row, later, (subst (λ m. MayBegin sample m None row) (sym no_pairs) may_begin, sym (ap (λ m. events_of sample m 1 row) no_pairs ∙ its_events)), refl),
+  (row, later, (subst (λ m. MayBegin sample m None row) (sym no_pairs) may_begin, sym (ap (λ m. events_of sample m 1 row) no_pairs ∙ its_events), refl), refl),
 )
 
 permitted : IsPermitted sample lock (event_of 1 (Grow 8192))

@@ -53,7 +53,7 @@ lead_begun = (
   (
     Append put,
     store_data 4 0x6401026b ∷ header_store,
-    ((11, small_shows, (lit< tt, lit≤ tt), ((lit< tt, lit≤ tt, key_bytes), lit< tt, lit≤ tt, value_bytes, lit< tt, λ _. refl), λ need e. absurd cc), sym (append_row _)),
+    ((11, small_shows, (lit< tt, lit≤ tt), ((lit< tt, lit≤ tt, key_bytes), lit< tt, lit≤ tt, value_bytes, lit< tt, λ _. refl), λ need e. absurd cc), sym (append_row _), refl),
     refl,
   ),
 )

@@ -107,7 +107,7 @@ lead_locked = (Between None, refl, refl)
 
 lead_raised : Reaches start raised (Within Clear (store_data 1 0x07ffffff ∷ store_data 0 4 ∷ marked_store ∷ last_stores))
 lead_raised =
-    (Between None, lead_locked, (Clear, store_data 1 0x07ffffff ∷ store_data 0 4 ∷ marked_store ∷ last_stores, (((4, start_shows), (lit< tt, has_size)), sym clear_row), refl))
+    (Between None, lead_locked, (Clear, store_data 1 0x07ffffff ∷ store_data 0 4 ∷ marked_store ∷ last_stores, (((4, start_shows), (lit< tt, has_size)), sym clear_row, refl), refl))
 
 lead_stored : Reaches start stored (Within Clear (store_data 0 4 ∷ marked_store ∷ last_stores))
 lead_stored = (_, lead_raised, (Clear, store_data 0 4 ∷ marked_store ∷ last_stores, (refl, refl), refl))

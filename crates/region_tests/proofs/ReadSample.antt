@@ -79,7 +79,7 @@ lead_begun = (
   (
     Append put,
     store_data 4 0x6401026b ∷ header_store,
-    ((11, start_shows, (lit< tt, lit≤ tt), ((lit< tt, lit≤ tt, key_bytes), lit< tt, lit≤ tt, value_bytes, lit< tt, λ _. refl), λ need e. absurd cc), sym append_row),
+    ((11, start_shows, (lit< tt, lit≤ tt), ((lit< tt, lit≤ tt, key_bytes), lit< tt, lit≤ tt, value_bytes, lit< tt, λ _. refl), λ need e. absurd cc), sym append_row, refl),
     refl,
   ),
 )

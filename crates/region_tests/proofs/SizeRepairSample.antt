@@ -42,7 +42,7 @@ unfolding events_of shown crc read_payload length_at
 row m = refl
 
 leads : Reaches sample (event_of 1 repair ∷ lock) (Between None)
-leads = (Between None, (Between None, refl, refl), (SizeRepair, [], ((11, shows), sym (row _)), refl))
+leads = (Between None, (Between None, refl, refl), (SizeRepair, [], ((11, shows), sym (row _), refl), refl))
 
 permitted : IsPermitted sample lock (event_of 1 repair)
 permitted = record { maker = (lit≤ tt, lit≤ tt); alive = refl; possible = (refl, lit≤ tt, lit< tt, λ e. absurd cc, tt); accepted = λ _. refl }

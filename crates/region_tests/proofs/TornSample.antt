@@ -82,7 +82,7 @@ leads = (
         Append put,
         0x01636261,
         later_stores,
-        ((11, shows, (lit< tt, lit≤ tt), ((lit< tt, lit≤ tt, key_bytes), lit< tt, lit≤ tt, value_bytes, lit< tt, λ _. refl), λ need e. absurd cc), sym (row _)),
+        ((11, shows, (lit< tt, lit≤ tt), ((lit< tt, lit≤ tt, key_bytes), lit< tt, lit≤ tt, value_bytes, lit< tt, λ _. refl), λ need e. absurd cc), sym (row _), refl),
         refl,
       ),
     ),

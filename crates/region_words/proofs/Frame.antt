@@ -243,7 +243,7 @@ to_come rows start past (Within row rest) who next events apart s (b, may, safe)
       subst (λ x. Safe x events b S (last_word past) v m) (sym c.0) (subst (λ x. Safe row x b S (last_word past) v m) (sym c.1) safe),
       λ h. subst (λ x. IsRewriting (Within x rest)) c.0 (subst (λ x. IsRewriting (Within next x)) c.1 h),
     )
-to_come rows start past (Between room) who next events apart s (k, o) (may_begin, e) =
+to_come rows start past (Between room) who next events apart s (k, o) (may_begin, e, _) =
     go (kept_shows (strings start past) (view (region_after start past)) (map_after start past) apart (strings_hold start past) k) o
   where
     r : Region

@@ -282,7 +282,7 @@ module _ (r : Region) (m : Map) (locks : Locks) (who : ℕ) where
   next : (p q : Phase) (what : What) (row : Row) (rest : List What) (other : Row) (more : List What) → Alike p q →
       MayComeNext r m who p row (what ∷ rest) → MayComeNext r m who q other (what ∷ more) → Together row rest other more
   unfolding Alike
-  next (Between room) (Between room') what row rest other more a (b, e) (c, f) =
+  next (Between room) (Between room') what row rest other more a (b, e, _) (c, f, _) =
       record {
         region = r;
         pairs = m;

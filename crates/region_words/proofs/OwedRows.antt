@@ -3,7 +3,7 @@ use Rattle.std.proofs.Common.{◌≡◌, ℕ, ◌+◌, ◌/◌, ◌≤◌, Bool,
 use Rattle.std.specs.Prelude.{Option, nat_lt, unwrap_or, ◌==◌}
 use Rattle.crc_words.specs.Crc.{crc_from}
 use Rattle.expiring_map.specs.Map.{Map}
-use Rattle.region_words.specs.Region.{Region}
+use Rattle.region_words.specs.Region.{Region, IsAccepted}
 use Rattle.region_words.specs.Past.{region_after}
 use Rattle.region_words.specs.Rows.{Row, Append, Pack, Clear, Enable, Disable, Restore, Discard, Recover, SizeRepair, MayBegin, events_of, append_stores, write_back_stores, switch_stores, recover_stores, stores_from, store_data, store_meta, payload_stores, close_sizes, confirmed_by_checksum, confirmed_by_header}
 use Rattle.region_words.specs.Standings.{words_of, tail_bytes}
@@ -42,10 +42,11 @@ pub record MayBeginNow (row : Row) (events : List What) (start : Region) (past :
   pub reached : Reaches start past (Between room)
   pub may : MayBegin (region_after start past) (map_after start past) room row
   pub are : events ≡ events_of (region_after start past) (map_after start past) who row
+  pub accepted : IsAccepted (region_after start past)
 
 begun : (row : Row) (events : List What) (start : Region) (past : List Event) (who : ℕ) → MayBeginNow row events start past who → Comes start past who row events
 begun row [] start past who b = absurd (some_event (region_after start past) (map_after start past) who row (sym b.are))
-begun row (what ∷ rest) start past who b = record { phase = Between b.room; reached = b.reached; next = (b.may, b.are) }
+begun row (what ∷ rest) start past who b = record { phase = Between b.room; reached = b.reached; next = (b.may, b.are, b.accepted) }
 
 -- a row that may begin is owed
 pub owes_row : (row : Row) (events : List What) (s : ShareState) (h : History) → Agrees s h → AreStorable (region_after h.start h.past) s.who events →

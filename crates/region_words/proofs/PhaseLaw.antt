@@ -27,7 +27,7 @@ module _ (P : Row → List What → View → Type 0)
 
   come : (r : Region) (m : Map) (who : ℕ) (old : Phase) (row : Row) (events : List What) → Fit (view r) → Holding r old → MayComeNext r m who old row events → P row events (view r)
   unfolding Holding
-  come r m who (Between room) row events fit h (may_begin, is) = subst (λ x. P row x (view r)) (sym is) (begins r m who room row fit may_begin)
+  come r m who (Between room) row events fit h (may_begin, is, _) = subst (λ x. P row x (view r)) (sym is) (begins r m who room row fit may_begin)
   come r m who (Within under rest) row events fit h (same, is) = subst (λ x. P x events (view r)) (sym same) (subst (λ x. P under x (view r)) (sym is) h)
 
   left : (r : Region) (row : Row) (rest : List What) → P row rest (view r) → Holding r (phase_with row rest)

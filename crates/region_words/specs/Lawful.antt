@@ -81,10 +81,10 @@ abbrev pub phase_with : Row → List What → Phase
 phase_with row [] = Between (room_of row)
 phase_with row (what ∷ rest) = Within row (what ∷ rest)
 
--- the events to come: of the row under way, or of a row that may begin
+-- the events to come: of the row under way, or of a row that may begin, where the record is accepted
 abbrev pub MayComeNext : Region → Map → ℕ → Phase → Row → List What → Type 0
 MayComeNext r m who (Within row rest) next events = (next ≡ row) × (events ≡ rest)
-MayComeNext r m who (Between room) next events = MayBegin r m room next × (events ≡ events_of r m who next)
+MayComeNext r m who (Between room) next events = MayBegin r m room next × (events ≡ events_of r m who next) × IsAccepted r
 
 -- the word whose store is the next event is torn so, with these bits
 abbrev pub IsTornWith : Region → Map → ℕ → Phase → ℕ → TornWord → Type 0

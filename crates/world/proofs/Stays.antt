@@ -10,7 +10,7 @@ use Rattle.region_words.specs.Lawful.{Between, Lawful, room_of}
 use Rattle.region_words.specs.Local.{Local, account_of, lock_after, reserved_in}
 use Rattle.region_words.specs.Owing.{AreStorable, AreWithin, Comes, IsOwing}
 use Rattle.region_words.specs.Past.{NoneOf, changes_of, has_died, region_after}
-use Rattle.region_words.specs.Region.{Region, IsAccepted}
+use Rattle.region_words.specs.Region.{Region}
 use Rattle.region_words.specs.Rows.{Row}
 use Rattle.region_words.specs.Share.{Agrees, ShareState, made_by}
 use Rattle.region_words.specs.Told.{History}
@@ -152,7 +152,6 @@ module _ (who : ℕ) (l k : Local) (stays : Stays who l k) (agrees : Agrees (sha
         owes = owes_later o o.work tied.owes;
         told = record {
           agrees = agrees;
-          accepted = subst IsAccepted (sym stays.start) tied.told.accepted;
           facts = there (Facts o) (carry o l.start stays.others l.past lawful others tied.at mine tied.told.facts);
         };
       }

@@ -8,6 +8,7 @@ use Rattle.std.proofs.lemmas.Option.{slice_get_within}
 use Rattle.change_log.specs.EachCaller.{answers_of}
 use Rattle.change_log.specs.declared.call.Answer.{Answer}
 use Rattle.change_log.specs.Settled.{NoneBy}
+use Rattle.region_words.specs.Region.{IsAccepted}
 use Rattle.region_words.specs.Lawful.{Lawful}
 use Rattle.region_words.specs.Local.{Local, lock_after, with_account}
 use Rattle.region_words.specs.Past.{NoneOf, changes_of}
@@ -147,7 +148,7 @@ pub stepped : (l k : Local) (openers : List OpenerState) (answers : List Answer)
 stepped l k openers answers i o next came world at makes tied settles keeps counted =
     record {
       few = omega (arith, len, world.few);
-      accepted = tied.told.accepted;
+      accepted = subst IsAccepted (sym (stays_by (i + 1) 0 l k (λ e. absurd (omega (arith, e))) makes).start) world.accepted;
       lawful = tied.told.agrees.lawful;
       each = λ j p is. each j p is (eqb_tells i j);
       unused = λ who above.
@@ -233,7 +234,7 @@ pub opened : (l k : Local) (openers : List OpenerState) (answers : List Answer) 
 opened l k openers answers a world room is tied =
     record {
       few = omega (arith, len, room);
-      accepted = tied.told.accepted;
+      accepted = subst (λ (m : Local). IsAccepted m.start) (sym is) world.accepted;
       lawful = tied.told.agrees.lawful;
       each = λ j p at. each j p (pushed_is openers (new_opener who) j p at);
       unused = λ w above.

@@ -11,7 +11,7 @@ use Rattle.lock_rules.specs.declared.table.LockKind.TheVariants.{Shared, Exclusi
 use Rattle.region_words.specs.Lawful.{Lawful}
 use Rattle.region_words.specs.Local.{Local, Seated, account_of, after_admission, lock_after, seat_state, with_account}
 use Rattle.region_words.specs.Past.{NoneOf, changes_of, has_died}
-use Rattle.region_words.specs.Region.{Region, IsAccepted}
+use Rattle.region_words.specs.Region.{Region}
 use Rattle.region_words.specs.Share.{ShareState}
 use Rattle.region_words.specs.Told.{History, OnTold}
 use Rattle.region_words.specs.declared.event.Event.{Event}
@@ -250,9 +250,6 @@ module _ (l : Local) (turned new : Seated) (openers : List OpenerState) (answers
 
   past_is : new.region.past ≡ l.past
   past_is = ap (λ (m : Local). m.past) region_is
-
-  pub is_new_accepted : IsAccepted new.region.start
-  is_new_accepted = subst (λ (m : Local). IsAccepted m.start) (sym region_is) world.accepted
 
   pub is_new_alive : (account_of new.region.accounts who).admitted ≡ true → (seat_state new).ended ≡ false
   is_new_alive admitted =

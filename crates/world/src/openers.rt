@@ -1,7 +1,6 @@
 // Openers by their numbers, and what they do to the region that they share.
 ghost use Rattle.std.specs.Prelude.{◌≡◌, ◌≢◌, ◌+◌, ◌++◌, ◌∷◌, [], ◌<◌, ◌≤◌, Bool, None, IfErr, IfOk, IfSome, OnErr, OnOk, false, length, slice_get, slice_set, vec_capacity, vec_len};
 ghost use Rattle.region_words.specs.Local.{seat_state};
-ghost use Rattle.region_words.specs.Region.{IsAccepted};
 ghost use Rattle.opener.specs.Calls.{IsBuilt};
 ghost use Rattle.opener.specs.Opener.{Tied, is_ended};
 ghost use Rattle.opener.specs.Settles.{answers_by};
@@ -84,7 +83,6 @@ fn not_admitted(stop: AdmitStop) -> OpenStop
 fn opener_at(alloc: Global, seat: &LocalSeat, handler: Box<dyn Handler + Send>) -> Opener
     requires alive { (seat_state seat.now).ended ≡ false }
     requires free { (seat_state seat.now).holds ≡ None }
-    requires accepted { IsAccepted seat.now.region.start }
     ensures tied { Tied result (seat_state seat.now) }
     ensures new { result ≡ new_opener seat.now.who }
 {

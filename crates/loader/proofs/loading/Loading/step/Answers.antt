@@ -1,6 +1,10 @@
 use Rattle.std.proofs.Common.{arith}
 use Rattle.std.proofs.lemmas.Result.{err_from_is_err_and}
+use Rattle.region_words.specs.Past.{region_after}
+use Rattle.region_words.specs.Region.{IsAccepted}
+use Rattle.region_words.proofs.Telling.{told_map}
 use Rattle.loader.specs.Loads.{HasLoaded}
+use Rattle.loader.proofs.Answered.{accepted-is}
 use Rattle.loader.proofs.Telling.{told_after, stops, size_told}
 use Rattle.loader.proofs.loading.Loading.step.Goals as goal
 
@@ -18,3 +22,8 @@ returns-clause-told g c =
 
 pub returns-clause-answered : goal.returns-clause-answered
 returns-clause-answered g c = size_told c.take_in.new.self (g.S.Share.state c.ask.new.share) (c.went.ensures.begun (omega (arith, c.in_ok-take_in.ensures.loads))) (returns-clause-told g c)
+
+pub returns-clause-accepts : goal.returns-clause-accepts
+returns-clause-accepts g c = λ ten.
+    told_map (g.S.Share.state c.ask.new.share).told (λ h. HasLoaded c.take_in.new.self (region_after h.start h.past)) (λ h. IsAccepted (region_after h.start h.past))
+    (λ h has. accepted-is c.take_in.new.self.first (region_after h.start h.past) (c.went.ensures.made ten) has.first (c.went.ensures.accepted ten)) (returns-clause-told g c)

@@ -20,7 +20,7 @@ returns-in-Ok-Going g c =
     let o = c.args.self.now in
     let did = c.in-Ok-Going.ensures in
     let same = loaded_same c.args.running _ c.with_load.ensures in
-    loads_on c.requires (λ stored none. none) o _ (Load c.step.new.self) refl did.goes c.with_load.ensures tt (λ looks. (refl, refl)) (λ has. omega (arith, has, did.loads, ap (λ (r : Running). r.loads) c.with_load.ensures)) c.going.ensures refl (λ so_far are. are)
+    loads_on c.requires (λ stored none. none) o _ (Load c.step.new.self) refl did.goes c.with_load.ensures (λ none ten. did.accepts (omega (arith, ten, did.loads))) (λ looks. (refl, refl)) (λ has. omega (arith, has, did.loads, ap (λ (r : Running). r.loads) c.with_load.ensures)) c.going.ensures refl (λ so_far are. are)
     (loaded_tied o _ _ c.args.loading _ _ _ c.requires same.same same.taken (rw c.in-Ok-Going.field-0-is at did.done) did.goes did.told)
     (load_shorter _ _ _ _ _ did.loads did.bound did.answered)
 
@@ -42,8 +42,9 @@ pub returns-in-Err-Record : goal.returns-in-Err-Record
 returns-in-Err-Record g c =
     let fault = c.in-Err-Record.fault in
     let stops = rw c.in-Err-Record.field-0-is at c.in-Err-Record.ensures.err in
+    let ten = rw c.in-Err-Record.field-0-is at c.in-Err-Record.ensures.tenth in
     let left = subst (λ w. Leaves c.with_load-in-Err-Record.result (end.Stop w) c.changes-in-Err-Record.result c.args.self.now c.leave.result c.leave.new.self) c.stop_of.ensures c.leave.ensures in
-    stop_steps c.args.self.now _ _ _ _ _ _ _ c.requires c.with_load-in-Err-Record.ensures stops.0 (stop_of fault) _ (refused_ends fault) (refused_reason c.args.running c.args.loading fault (g.S.Share.state c.args.share.now) _ stops.1)
+    stop_steps c.args.self.now _ _ _ _ _ _ _ c.requires c.with_load-in-Err-Record.ensures stops.0 (stop_of fault) _ (refused_ends fault) (refused_reason c.args.running c.args.loading fault (g.S.Share.state c.args.share.now) _ ten stops.1)
     c.changes-in-Err-Record.ensures left
 
 pub returns-in-Err-Memory : goal.returns-in-Err-Memory

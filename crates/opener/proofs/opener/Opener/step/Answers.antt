@@ -4,6 +4,7 @@ use Rattle.opener.specs.Opener.{is_storing}
 use Rattle.opener.specs.Quiet.{ShowsQuietly}
 use Rattle.opener.specs.declared.work.Work.TheVariants.{Ended}
 use Rattle.opener.proofs.Quiet.{idle_quietly, shows_quietly}
+use Rattle.opener.proofs.RefusedRecords.{refused_stops, step_refused}
 use Rattle.opener.proofs.Settles.{step_settles}
 use Rattle.opener.proofs.opener.Opener.step.Goals as goal
 
@@ -12,6 +13,11 @@ returns-in-Runs-clause-settles g c =
     let e = c.go.ensures in
     step_settles _ c.args.self.now c.in-Runs.running c.in-Runs.stage c.go.result c.go.new.self (g.S.Share.state c.args.share.now) (g.S.Share.state c.go.new.share) c.self.view_is
     (sym c.replace.ensures.value ∙ c.in-Runs.is) c.requires e.tied e.makes e.adds e.call e.answer
+
+pub returns-in-Runs-clause-refused : goal.returns-in-Runs-clause-refused
+returns-in-Runs-clause-refused g c =
+    step_refused _ c.args.self.now c.in-Runs.running c.in-Runs.stage c.go.result c.go.new.self (g.S.Share.state c.go.new.share) c.self.view_is
+    (sym c.replace.ensures.value ∙ c.in-Runs.is) (refused_stops c.go.ensures)
 
 pub returns-in-Runs-clause-quiet : goal.returns-in-Runs-clause-quiet
 returns-in-Runs-clause-quiet g c = shows_quietly c.go.new.self (g.S.Share.state c.go.new.share) c.go.ensures.tied
