@@ -109,9 +109,13 @@ def read_field(data: bytes, at: int) -> Tuple[bytes, int]:
 
 def items_of(payload: bytes) -> Iterator[Tuple[bytes, bytes]]:
     """Key and value of each item. An empty payload has none; another begins with a length that says nothing."""
-    if not payload:
-        return
-    _, at = read_length(payload, 0)
+    if payload:
+        _, at = read_length(payload, 0)
+        yield from items_from(payload, at)
+
+
+def items_from(payload: bytes, at: int) -> Iterator[Tuple[bytes, bytes]]:
+    """Key and value of each item from that place on, to the payload's end."""
     while at < len(payload):
         key, at = read_field(payload, at)
         if not key:
@@ -134,9 +138,15 @@ Pairs = Dict[bytes, Held]
 
 
 def map_of(payload: bytes, expires: bool) -> Pairs:
-    """Later items win, an empty value removes its key. With expiry the last four bytes of a value are its second."""
-    pairs: Pairs = {}
-    for key, value in items_of(payload):
+    """The map of a whole payload."""
+    return with_items({}, items_of(payload), expires)
+
+
+def with_items(pairs: Pairs, items: Iterator[Tuple[bytes, bytes]], expires: bool) -> Pairs:
+    """The map with these items put in. Later items win, an empty value removes its key. With expiry the last four bytes of a value are its
+    second."""
+    pairs = dict(pairs)
+    for key, value in items:
         if not value:
             pairs.pop(key, None)
         elif not expires:
@@ -378,6 +388,7 @@ class Image:
     sequence: int
     version: int
     expires: bool
+    file_size: int
 
 
 @dataclass
@@ -479,11 +490,11 @@ class Opener:
 
     def read(self, call: Call, now: int) -> Steps:
         """A warm opener that finds its checksum and sequence again answers from what it keeps, without a lock."""
-        current, place = yield from self.notice()
-        if not current:
+        load, place = yield from self.notice()
+        if load:
             if not self.holds:
                 yield (self.region.lock_shared, self.who)
-            self.image = yield from self.full_load()
+            self.image = yield from load()
             place = len(self.region.changes)
             if not self.holds:
                 yield (self.region.unlock, self.who)
@@ -493,9 +504,9 @@ class Opener:
         """Under the exclusive lock: the image, the refusals, the events. A stop is answered after the lock is left."""
         if not self.holds:
             yield (self.region.lock_exclusive, self.who)
-        current, _ = yield from self.notice()
-        if not current:
-            self.image = yield from self.full_load()
+        load, _ = yield from self.notice()
+        if load:
+            self.image = yield from load()
         try:
             place = yield from self.change(call, now)
             end = Replied('done', place)
@@ -507,18 +518,52 @@ class Opener:
         return end
 
     def notice(self) -> Steps:
-        """Whether the image is current, and the number of changes at the look at the checksum. A cold opener doesn't look."""
+        """The load that brings the image, and the number of changes at the look at the checksum. None is wanted where both words are the
+        kept ones, and a partial one where the sequence alone is. A cold opener doesn't look."""
         if self.image is None:
-            return False, None
+            return self.full_load, None
         checksum = yield (self.region.peek, CHECKSUM)
         place = len(self.region.changes)
         sequence = yield (self.region.peek, SEQUENCE)
-        return (checksum, sequence) == (self.image.checksum, self.image.sequence), place
+        if sequence != self.image.sequence:
+            return self.full_load, place
+        return (None if checksum == self.image.checksum else self.partial_load), place
+
+    def partial_load(self) -> Steps:
+        """The image to which the kept one goes on, else that of a full load."""
+        image = yield from self.longer_image()
+        if image is None:
+            image = yield from self.full_load()
+        return image
+
+    def longer_image(self) -> Steps:
+        """Three words of the record, the file's size where the record's doesn't fit the kept one, and the words from the one on in which
+        the kept payload ends. None where the record's image isn't the kept one with items appended to it."""
+        kept = self.image
+        checksum = yield (self.region.load_meta, CHECKSUM)
+        sequence = yield (self.region.load_meta, SEQUENCE)
+        size = yield (self.region.load_meta, RECORD_SIZE)
+        old_size, file_size = len(kept.payload), kept.file_size
+        if sequence != kept.sequence:
+            return None
+        if 4 + size > file_size:
+            file_size = yield (self.region.size,)
+        if size < old_size or 4 + size > file_size:
+            return None
+        front = old_size // 4 * 4
+        payload = kept.payload[:front] + (yield from self.words(front // 4, size))
+        if zlib.crc32(payload[old_size:], kept.checksum) != checksum:
+            return None
+        try:
+            pairs = with_items(kept.pairs, items_from(bytes(payload), old_size), kept.expires)
+        except NoItems:
+            return None
+        return Image(pairs, payload, checksum, sequence, kept.version, kept.expires, file_size)
 
     def full_load(self) -> Steps:
         """Ten loads, and then the payload's words. A region that doesn't show its record's image isn't met here: the command refuses such
         a start, and only a death could leave one."""
-        yield (self.region.size,)
+        file_size = yield (self.region.size,)
         version = yield (self.region.load_meta, VERSION)
         flags = yield (self.region.load_meta, FLAGS_LOW)
         yield (self.region.load_meta, FLAGS_HIGH)
@@ -528,16 +573,21 @@ class Opener:
         yield (self.region.load_meta, LAST_SIZE)
         yield (self.region.load_meta, LAST_CHECKSUM)
         yield (self.region.load_data, HEADER)
-        words = bytearray()
-        for word in range(1, 1 + -(-size // 4)):
-            loaded = yield (self.region.load_data, word)
-            words += loaded.to_bytes(4, 'little')
-        payload = words[:size]
-        return Image(map_of(bytes(payload), flags == 1), payload, zlib.crc32(payload), sequence, version, flags == 1)
+        payload = yield from self.words(0, size)
+        return Image(map_of(bytes(payload), flags == 1), payload, zlib.crc32(payload), sequence, version, flags == 1, file_size)
+
+    def words(self, first: int, size: int) -> Steps:
+        """The bytes of the payload of that size, from its word of that number on, by one load a word."""
+        loaded = bytearray()
+        for at in range(first, -(-size // 4)):
+            word = yield (self.region.load_data, 1 + at)
+            loaded += word.to_bytes(4, 'little')
+        return loaded[:size - 4 * first]
 
     def change(self, call: Call, now: int) -> Steps:
         """Refusals and events of a change, on the image that stands. The number of changes before its own."""
         file_size = yield (self.region.size,)
+        self.image.file_size = file_size
         if call.name == 'clear':
             events = self.image_events({}, 0, file_size, Change(self.who, 'clear'))
         else:
@@ -612,7 +662,7 @@ class Opener:
             (self.region.store_meta, LAST_SIZE, size),
             (self.region.store_meta, LAST_CHECKSUM, checksum),
         ]
-        self.image = Image(pairs, bytearray(payload), checksum, image.sequence + 1, image.version or 3, image.expires)
+        self.image = Image(pairs, bytearray(payload), checksum, image.sequence + 1, image.version or 3, image.expires, new_file)
         return events
 
     def word_stores(self, payload: bytes | bytearray, first: int) -> List[Operation]:

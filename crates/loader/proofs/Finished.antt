@@ -4,7 +4,7 @@ use Rattle.std.specs.Prelude.{Some, Ok, ◌==◌}
 use Rattle.std.specs.FinMap as fin
 use Rattle.std.proofs.lemmas.Bool.{cases_lt}
 use Rattle.expiring_map.specs.Map.{Map}
-use Rattle.kv_pairs.specs.Growth.{largest}
+use Rattle.kv_pairs.specs.Growth.{IsFileSize, largest}
 use Rattle.kv_pairs.specs.Mapped.{map_in}
 use Rattle.kv_pairs.proofs.GrammarRead.{Small}
 use Rattle.kv_pairs.proofs.GoodItems.{Small-take}
@@ -15,7 +15,7 @@ use Rattle.kv_pairs.proofs.ReadSizes.{read_fits}
 use Rattle.meta_record.specs.Records.{checked}
 use Rattle.meta_record.specs.declared.record.Record.{Record}
 use Rattle.meta_record.specs.declared.shown.Shown.{Shown}
-use Rattle.loader.specs.FirstWords.{HasWords, IsDataSize, IsWritten, record_in, header_in, size_in, standing_in}
+use Rattle.loader.specs.FirstWords.{HasWords, IsWritten, record_in, header_in, size_in, standing_in}
 use Rattle.loader.specs.Outlooks.{IsLoaded, IsDue}
 use Rattle.loader.specs.Loads.{Load, IsLoad, IsLoadedWhole}
 use Rattle.loader.specs.declared.first_words.FirstWords.{FirstWords}
@@ -60,7 +60,7 @@ finished l found s rec header good is rec_is header_is =
       accepted = (λ i. checked (rec_is i) (header_is i)) ∙ accepted;
       size = due.size;
       within = omega (arith, good.within some, due.file);
-      file = subst IsDataSize (sym due.file) file;
+      file = subst IsFileSize (sym due.file) file;
       map = due.map;
       firm = λ p e. due.written p accepted file (sym due.version ∙ e);
       words = due.words;
@@ -82,9 +82,9 @@ finished l found s rec header good is rec_is header_is =
     accepted : checked (record_in l.first) (header_in l.first) ≡ Ok tt
     accepted = good.accepted made
 
-    file : IsDataSize (size_in l.first)
+    file : IsFileSize (size_in l.first)
     file = good.file some
 
 -- the image of a load that is done is sound
 pub sound_image : (l : Loaded) → IsLoadedWhole l → IsSoundImage l.image
-sound_image l w = record { file = w.file; within = omega (arith, w.size, w.within); map = w.map; firm = w.firm; words = w.words }
+sound_image l w = record { standing = record { file = w.file; within = omega (arith, w.size, w.within); firm = w.firm }; map = w.map }

@@ -1,5 +1,5 @@
 -- The image to which a kept one goes on.
-use Rattle.std.proofs.Common.{◌≡◌, ℕ, zero, suc, ◌+◌, ◌-◌, ◌%◌, ◌^◌, ◌<◌, List, ◌++◌, length, refl, sym, ◌∙◌, ap, subst, arith, length-take, length-drop}
+use Rattle.std.proofs.Common.{◌≡◌, ℕ, zero, suc, ◌+◌, ◌-◌, ◌%◌, ◌<◌, List, ◌++◌, length, refl, sym, ◌∙◌, ap, subst, arith, length-take, length-drop}
 use Rattle.std.specs.Prelude.{All, Some}
 use Rattle.std.proofs.lemmas.List.Elements.{All-drop}
 use Rattle.crc_words.specs.Crc.{crc, crc_from}
@@ -30,9 +30,9 @@ some_kept zero z none some = absurd (omega (arith, some, none refl))
 some_kept (suc n) z none some = omega arith
 
 -- an image that is sound goes on to one
-pub part_sound : (p : PartialLoad) (m : Map) → IsPartialLoad p → All (λ b. b < 256) (bytes_from p) → checksum_in p < 2 ^ 32 → IsSoundImage (kept_image m p) → Extends m p →
+pub part_sound : (p : PartialLoad) (m : Map) → IsPartialLoad p → All (λ b. b < 256) (bytes_from p) → IsSoundImage (kept_image m p) → Extends m p →
     IsSoundImage (image_in p)
-part_sound p m good small checksum kept e =
+part_sound p m good small kept e =
     let all = nothing_lacks p e.complete in
     let may = all.0 in
     let from : length (bytes_from p) ≡ added_size p = omega (arith, length-take (added_size p) p.added, all.1) in
@@ -40,11 +40,8 @@ part_sound p m good small checksum kept e =
     let some = All-drop (λ b. b < 256) (p.kept.size % 4) (bytes_from p) small in
     let fits = more_fit p.kept.flag m (p.kept.size + 4) (bytes_added p) e.items kept.map some (omega (arith, added, may.room, good.file.most)) e.reads e.mapped in
     record {
-      file = good.file;
-      within = may.room;
+      standing = record { file = good.file; within = may.room; firm = λ more. kept.standing.firm (some_kept p.kept.size (size_in p) may.empty more) };
       map = subst (λ map. FitsIn p.kept.flag map (size_in p + 4)) (sym e.map) (record { pairs = fits.pairs; size = omega (arith, fits.size, added, may.size) });
-      firm = λ more. kept.firm (some_kept p.kept.size (size_in p) may.empty more);
-      words = record { sequence = kept.words.sequence; checksum = omega (arith, checksum) };
     }
 
 -- and one that was shown goes on to the one that is

@@ -1,7 +1,7 @@
 -- What the first ten loads answer.
-use Rattle.std.specs.Prelude.{◌≡◌, ◌≢◌, ℕ, ◌+◌, ◌*◌, ◌%◌, ◌<◌, ◌≤◌, List, [], ◌∷◌, length, take, slice_index, ◌==◌, Ok}
+use Rattle.std.specs.Prelude.{◌≡◌, ◌≢◌, ℕ, ◌+◌, ◌*◌, ◌≤◌, List, [], ◌∷◌, length, take, slice_index, ◌==◌, Ok}
 use Rattle.meta_record.specs.Records.{checked}
-use Rattle.kv_pairs.specs.Growth.{largest}
+use Rattle.kv_pairs.specs.Growth.{IsFileSize}
 use Rattle.meta_record.specs.declared.record.Record.{Record}
 use Rattle.meta_record.specs.declared.record.TheConstants.{WORD_CHECKSUM, WORD_VERSION, WORD_SEQUENCE, WORD_SIZE, WORD_LAST_SIZE, WORD_LAST_CHECKSUM, WORD_FLAGS_LOW, WORD_FLAGS_HIGH}
 use Rattle.region_words.specs.Region.{Region, file_size}
@@ -49,15 +49,9 @@ header_in f = slice_index f.answers 9
 abbrev pub HasAccepted : FirstWords → Type 0
 HasAccepted f = checked (record_in f) (header_in f) ≡ Ok tt
 
--- whole pages, and no more than a data file has
-pub record IsDataSize (size : ℕ) : Type 0 where
-  pub pages : size % 4096 ≡ 0
-  pub some : 0 < size
-  pub most : size ≤ largest
-
 -- if the record is accepted, something was written to the store
 abbrev pub IsWritten : FirstWords → Type 0
-IsWritten f = HasAccepted f → IsDataSize (size_in f) → (record_in f).version ≢ 0
+IsWritten f = HasAccepted f → IsFileSize (size_in f) → (record_in f).version ≢ 0
 
 -- the sequence and the checksum are words
 pub record HasWords (s : Standing) : Type 0 where

@@ -9,7 +9,8 @@ use Rattle.region_words.specs.Past.{region_after}
 use Rattle.region_words.specs.Told.{OnTold}
 use Rattle.region_words.specs.Share.{ShareState, Goes, Stops, loaded}
 use Rattle.region_words.specs.Rows.{standing}
-use Rattle.loader.specs.FirstWords.{AreFirst, HasAccepted, HasWords, IsDataSize, first_answers, size_in}
+use Rattle.kv_pairs.specs.Growth.{IsFileSize}
+use Rattle.loader.specs.FirstWords.{AreFirst, HasAccepted, HasWords, first_answers, size_in}
 use Rattle.loader.specs.Candidates.{IsFront}
 use Rattle.loader.specs.Outlooks.{IsOutlookOf, IsDue}
 use Rattle.loader.specs.declared.first_words.FirstWords.{FirstWords}
@@ -76,7 +77,7 @@ pub record IsLoadedWhole (l : Loaded) : Type 0 where
   pub accepted : checked l.rec l.header ≡ Ok tt
   pub size : l.image.standing.size ≤ length l.payload
   pub within : 4 + length l.payload ≤ l.image.standing.file_size
-  pub file : IsDataSize l.image.standing.file_size
+  pub file : IsFileSize l.image.standing.file_size
   pub map : FitsIn l.image.standing.flag l.image.map (l.image.standing.size + 4)
   pub firm : 0 < l.image.standing.size → l.image.standing.version ≢ 0
   pub words : HasWords l.image.standing
@@ -85,7 +86,7 @@ pub record IsLoadedWhole (l : Loaded) : Type 0 where
 pub record IsLoad (l : Load) : Type 0 where
   pub most : l.first.made ≤ 10
   pub early : l.first.made < 10 → (l.payload ≡ []) × (l.outlook ≡ Wants by.Record)
-  pub file : 0 < l.first.made → IsDataSize (size_in l.first)
+  pub file : 0 < l.first.made → IsFileSize (size_in l.first)
   pub words : length l.payload % 4 ≡ 0
   pub within : 0 < l.first.made → 4 + length l.payload ≤ size_in l.first
   pub accepted : l.first.made ≡ 10 → HasAccepted l.first

@@ -1,6 +1,6 @@
 -- A partial load by its fields.
 use Rattle.std.specs.Prelude.{◌≡◌, ◌+◌, ◌%◌, ◌<◌, ◌≤◌, [], length}
-use Rattle.loader.specs.FirstWords.{IsDataSize}
+use Rattle.kv_pairs.specs.Growth.{IsFileSize}
 use Rattle.loader.specs.PartialLoads.{PartialLoad, added_size, size_in}
 use Rattle.loader.specs.declared.partial.PartialLoading.TheInside.{Inside}
 
@@ -13,7 +13,7 @@ partial_load_of l =
 pub record IsPartialLoad (p : PartialLoad) : Type 0 where
   pub most : p.words.made ≤ 3
   pub early : p.words.made < 3 → p.added ≡ []
-  pub file : IsDataSize p.file_size
+  pub file : IsFileSize p.file_size
   pub whole : length p.added % 4 ≡ 0
   pub few : length p.added < added_size p + 4
   pub room : 0 < length p.added → 4 + size_in p ≤ p.file_size

@@ -3,6 +3,7 @@ use Rattle.std.specs.Prelude.{◌≡◌, ◌≢◌, ℕ, ◌+◌, ◌-◌, ◌*�
 use Rattle.crc_words.specs.Crc.{crc_from}
 use Rattle.expiring_map.specs.Map.{Map}
 use Rattle.kv_pairs.specs.Fits.{FitsIn}
+use Rattle.kv_pairs.specs.Growth.{IsFileSize}
 use Rattle.kv_pairs.specs.Mapped.{first_without_room, with_items}
 use Rattle.kv_pairs.specs.Reading.{units_at}
 use Rattle.kv_pairs.specs.declared.item.Item.{Item}
@@ -18,7 +19,6 @@ use Rattle.region_words.specs.Standings.{IsStandingOf, tail_of}
 use Rattle.region_words.specs.declared.event.Event.{Event}
 use Rattle.region_words.specs.declared.event.Side.TheVariants.{Meta}
 use Rattle.region_words.specs.declared.standing.Standing.{Standing}
-use Rattle.loader.specs.FirstWords.{HasWords, IsDataSize}
 use Rattle.loader.specs.declared.loaded.Image.{Image}
 use Rattle.loader.specs.declared.partial.Need.{Need}
 use Rattle.loader.specs.declared.partial.Need.TheVariants.{Word, FileSize, Payload, Nothing, FullLoad}
@@ -38,14 +38,16 @@ pub record GoesOnIn (s : Standing) (r : Region) : Type 0 where
   pub reads : units_at (bytes_behind r s.size) ≡ (items, [])
   pub mapped : first_without_room s.flag items ≡ None
 
--- An image lies in a file of whole pages, its map can be packed to as many bytes and four more, it has a version where it isn't empty, and
--- what is known of it are words.
+-- an image lies in a data file, and has a version where it isn't empty
+pub record IsSoundStanding (s : Standing) : Type 0 where
+  pub file : IsFileSize s.file_size
+  pub within : 4 + s.size ≤ s.file_size
+  pub firm : 0 < s.size → s.version ≢ 0
+
+-- and its map can be packed again, to as many bytes and the four that a payload begins with
 pub record IsSoundImage (i : Image) : Type 0 where
-  pub file : IsDataSize i.standing.file_size
-  pub within : 4 + i.standing.size ≤ i.standing.file_size
+  pub standing : IsSoundStanding i.standing
   pub map : FitsIn i.standing.flag i.map (i.standing.size + 4)
-  pub firm : 0 < i.standing.size → i.standing.version ≢ 0
-  pub words : HasWords i.standing
 
 -- an image was shown at an earlier moment, and all this is known of it
 pub record WasKept (i : Image) (start : Region) (past : List Event) : Type 0 where

@@ -1,10 +1,11 @@
 // The answers of the first ten loads: the size of the data file, the record and the header.
 ghost use Rattle.std.specs.Prelude.{◌≡◌, ◌+◌, ◌<◌, ◌≤◌, slice_index, slice_set, length, replicate, nat_lt, false, IfOk, IfErr, OnOk};
+ghost use Rattle.kv_pairs.specs.Growth.{IsFileSize};
 ghost use Rattle.region_words.specs.Region.{Region};
 ghost use Rattle.region_words.specs.Told.{OnTold};
 ghost use Rattle.region_words.specs.Past.{region_after};
 ghost use Rattle.region_words.specs.Share.{IsSound, Goes, Stops, loaded};
-ghost use Rattle.loader.specs.FirstWords.{AreFirst, record_in, header_in, size_in, first_answers, standing_in, IsDataSize, HasWords};
+ghost use Rattle.loader.specs.FirstWords.{AreFirst, record_in, header_in, size_in, first_answers, standing_in, HasWords};
 ghost use Rattle.region_words.specs.Standings.{tail_of};
 
 use meta_record::{
@@ -57,7 +58,7 @@ impl FirstWords {
         requires sound { IsSound (S.state share.old) }
         ensures ok { OnOk result (Goes (loaded (S.state share.old)) (S.state share.old) (S.state share.new)) }
         ensures value { IfOk result (λ value. OnTold (S.state share.new).told (λ h. value ≡ slice_index (first_answers (region_after h.start h.past)) self.now.made)) }
-        ensures size { IfOk result (λ value. self.now.made ≡ 0 → IsDataSize value) }
+        ensures size { IfOk result (λ value. self.now.made ≡ 0 → IsFileSize value) }
         ensures err { IfErr result (λ stop. Stops stop (S.state share.old) (S.state share.new)) }
     {
         if self.made == 0 {

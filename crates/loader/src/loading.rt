@@ -1,10 +1,11 @@
 // A full load of a region: one load of a shared region a step.
 ghost use Rattle.std.specs.Prelude.{◌≡◌, ◌≢◌, ◌+◌, ◌/◌, ◌<◌, ◌≤◌, None, true, false, slice_index, IfOk, IfErr, OnOk, OnErr};
+ghost use Rattle.kv_pairs.specs.Growth.{IsFileSize};
 ghost use Rattle.region_words.specs.Region.{Region, IsAccepted, IsRegion, file_size};
 ghost use Rattle.region_words.specs.Past.{region_after};
 ghost use Rattle.region_words.specs.Told.{OnTold};
 ghost use Rattle.region_words.specs.Share.{IsSound, Goes, Stops, loaded};
-ghost use Rattle.loader.specs.FirstWords.{HasAccepted, IsDataSize, first_answers, size_in};
+ghost use Rattle.loader.specs.FirstWords.{HasAccepted, first_answers, size_in};
 ghost use Rattle.loader.specs.Loads.{HasLoaded, loads_of, next_answer, next_payload_word, is_done, Says, IsLoadOf, IsLoadedWhole, StopsLoading, Refuses, IsTenthIfRecord};
 ghost use Rattle.loader.specs.PartialLoads.{IsSoundImage};
 
@@ -75,7 +76,7 @@ impl Loading {
         ensures goes { OnOk result (Goes (loaded (S.state share.old)) (S.state share.old) (S.state share.new)) }
         ensures loads { OnOk result (loads_of self.new ≡ loads_of self.old + 1) }
         ensures bound { OnOk result (loads_of self.new ≤ 10 + size_in self.new.first / 4) }
-        ensures file { OnOk result (IsDataSize (size_in self.new.first)) }
+        ensures file { OnOk result (IsFileSize (size_in self.new.first)) }
         ensures size { OnOk result (0 < loads_of self.old → size_in self.new.first ≡ size_in self.old.first) }
         ensures answered { OnOk result (OnTold (S.state share.new).told (λ h. size_in self.new.first ≡ file_size (region_after h.start h.past))) }
         ensures done { IfOk result (λ went. Says went self.new) }
@@ -100,7 +101,7 @@ impl Loading {
         ensures sound { IsSound (S.state share.old) }
         ensures goes { OnOk result (Goes (loaded (S.state share.old)) (S.state share.old) (S.state share.new)) }
         ensures value { IfOk result (λ value. OnTold (S.state share.new).told (λ h. value ≡ next_answer self.now (region_after h.start h.past))) }
-        ensures size { IfOk result (λ value. self.now.first.made ≡ 0 → IsDataSize value) }
+        ensures size { IfOk result (λ value. self.now.first.made ≡ 0 → IsFileSize value) }
         ensures err { IfErr result (λ stop. Stops stop (S.state share.old) (S.state share.new)) }
     {
         // with its opener's number the share says that it is sound, so that the first words lie in its files
@@ -115,7 +116,7 @@ impl Loading {
 
     fn take_in(&mut self, value: u32) -> Result<(), LoadStop>
         requires going { is_done self.old ≡ false }
-        requires size { self.old.first.made ≡ 0 → IsDataSize value }
+        requires size { self.old.first.made ≡ 0 → IsFileSize value }
         ensures loads { OnOk result (loads_of self.new ≡ loads_of self.old + 1) }
         ensures size { OnOk result (0 < loads_of self.old → size_in self.new.first ≡ size_in self.old.first) }
         ensures told { OnOk result ((r : Region) → IsRegion r → HasLoaded self.old r → value ≡ next_answer self.old r → HasLoaded self.new r) }
@@ -132,7 +133,7 @@ impl Loading {
 
     fn take_first_word(&mut self, value: u32) -> Result<(), LoadStop>
         requires first { self.old.first.made < 10 }
-        requires size { self.old.first.made ≡ 0 → IsDataSize value }
+        requires size { self.old.first.made ≡ 0 → IsFileSize value }
         ensures loads { OnOk result (loads_of self.new ≡ loads_of self.old + 1) }
         ensures size { OnOk result (0 < loads_of self.old → size_in self.new.first ≡ size_in self.old.first) }
         ensures told { OnOk result ((r : Region) → HasLoaded self.old r → value ≡ slice_index (first_answers r) self.old.first.made → HasLoaded self.new r) }
@@ -175,7 +176,7 @@ impl Loading {
     // Whether the load is done.
     fn went(&self) -> Went
         ensures begun { 0 < loads_of self.now → 0 < self.now.first.made }
-        ensures file { 0 < loads_of self.now → IsDataSize (size_in self.now.first) }
+        ensures file { 0 < loads_of self.now → IsFileSize (size_in self.now.first) }
         ensures done { Says result self.now }
         ensures bound { loads_of self.now ≤ 10 + size_in self.now.first / 4 }
         ensures accepted { 10 ≤ loads_of self.now → HasAccepted self.now.first }

@@ -2,7 +2,7 @@
 ghost use Rattle.std.specs.Prelude.{◌≡◌, ◌≢◌, ◌+◌, ◌%◌, ◌/◌, ◌^◌, ◌<◌, ◌≤◌, [], All, List, None, Ok, false, length, IfOk, IfErr, IfSome, OnOk};
 ghost use Rattle.crc_words.specs.Crc.{crc_from};
 ghost use Rattle.kv_pairs.specs.Found.{HaveKeys};
-ghost use Rattle.kv_pairs.specs.Growth.{largest};
+ghost use Rattle.kv_pairs.specs.Growth.{IsFileSize, largest};
 ghost use Rattle.kv_pairs.specs.Mapped.{first_without_room, with_items};
 ghost use Rattle.kv_pairs.specs.Reading.{units_at};
 ghost use Rattle.kv_pairs.specs.declared.item.Item.{Item};
@@ -10,7 +10,6 @@ ghost use Rattle.region_words.specs.Region.{Region, IsRegion};
 ghost use Rattle.region_words.specs.Past.{region_after};
 ghost use Rattle.region_words.specs.Told.{OnTold};
 ghost use Rattle.region_words.specs.Share.{IsSound, Goes, Stops, loaded};
-ghost use Rattle.loader.specs.FirstWords.{IsDataSize};
 ghost use Rattle.loader.specs.PartialLoads.{Extends, GivesShown, GivesSound, GoesOnIn, HasLoadedPart, IsGoing, IsSamePart, IsSoundImage, StopsGoingOn};
 ghost use Rattle.loader.specs.PartialLoads.{added_size, bytes_added, bytes_from, checksum_in, going_on_from, image_in, loads_made, need_of, next_part, next_part_word, standing_with};
 
@@ -111,6 +110,7 @@ impl PartialLoading {
         ensures loads { OnOk result (loads_made self.new ≡ loads_made self.old + 1) }
         ensures bound { OnOk result (loads_made self.new ≤ 4 + (added_size self.new + 3) / 4) }
         ensures most { OnOk result (loads_made self.new ≤ 4 + largest / 4) }
+        ensures within { OnOk result (loads_made self.new ≤ 4 + self.new.file_size / 4) }
         ensures kept { OnOk result (self.new.kept ≡ self.old.kept) }
         ensures going { IfOk result (λ ran. ran ≡ Ran.Going → IsGoing self.new × (self.new.map ≡ self.old.map)) }
         ensures holds { IfOk result (λ ran. ran ≡ Ran.Holds → Extends self.old.map self.new) }
@@ -133,7 +133,7 @@ impl PartialLoading {
         ensures sound { IsSound (S.state share.old) }
         ensures goes { OnOk result (Goes (loaded (S.state share.old)) (S.state share.old) (S.state share.new)) }
         ensures value { IfOk result (λ value. OnTold (S.state share.new).told (λ h. value ≡ next_part self.now (region_after h.start h.past))) }
-        ensures pages { IfOk result (λ value. need_of self.now ≡ Need.FileSize → IsDataSize value) }
+        ensures pages { IfOk result (λ value. need_of self.now ≡ Need.FileSize → IsFileSize value) }
         ensures err { IfErr result (λ stop. Stops stop (S.state share.old) (S.state share.new)) }
     {
         // with its opener's number the share says that it is sound, so that the words of the record lie in its files
@@ -155,10 +155,11 @@ impl PartialLoading {
 
     fn take_in(&mut self, value: u32) -> Result<(), Memory>
         requires going { IsGoing self.old }
-        requires pages { need_of self.old ≡ Need.FileSize → IsDataSize value }
+        requires pages { need_of self.old ≡ Need.FileSize → IsFileSize value }
         ensures loads { OnOk result (loads_made self.new ≡ loads_made self.old + 1) }
         ensures bound { OnOk result (loads_made self.new ≤ 4 + (added_size self.new + 3) / 4) }
         ensures most { OnOk result (loads_made self.new ≤ 4 + largest / 4) }
+        ensures within { OnOk result (loads_made self.new ≤ 4 + self.new.file_size / 4) }
         ensures kept { OnOk result ((self.new.kept ≡ self.old.kept) × (self.new.map ≡ self.old.map)) }
         ensures told { OnOk result ((r : Region) → IsRegion r → HasLoadedPart self.old r → value ≡ next_part self.old r → HasLoadedPart self.new r) }
     {
@@ -178,6 +179,7 @@ impl PartialLoading {
         ensures loads { OnOk result (loads_made self.new ≡ loads_made self.old + 1) }
         ensures bound { OnOk result (loads_made self.new ≤ 4 + (added_size self.new + 3) / 4) }
         ensures most { OnOk result (loads_made self.new ≤ 4 + largest / 4) }
+        ensures within { OnOk result (loads_made self.new ≤ 4 + self.new.file_size / 4) }
         ensures kept { OnOk result ((self.new.kept ≡ self.old.kept) × (self.new.map ≡ self.old.map)) }
         ensures told { OnOk result ((r : Region) → IsRegion r → HasLoadedPart self.old r → value ≡ next_part self.old r → HasLoadedPart self.new r) }
     {
@@ -274,7 +276,6 @@ impl PartialLoading {
         requires { length payload.now < 2 ^ 32 }
         ensures value { result ≡ standing_with self.now payload.now }
         ensures bytes { All (λ b. b < 256) payload.now }
-        ensures checksum { result.checksum < 2 ^ 32 }
     {
         Standing {
             size: self.words.size(),

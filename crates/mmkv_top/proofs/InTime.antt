@@ -9,6 +9,7 @@ use Rattle.opener.specs.State.{OpenerState}
 use Rattle.opener.specs.declared.calls.Step.{Step}
 use Rattle.opener.specs.declared.calls.Step.TheVariants as step
 use Rattle.opener.specs.declared.work.Stage.{Stage}
+use Rattle.opener.specs.declared.work.Extent.TheVariants.{Partial, Full}
 use Rattle.opener.specs.declared.work.Stage.TheVariants as stage
 use Rattle.opener.specs.declared.work.Work.{Work}
 use Rattle.opener.specs.declared.work.Work.TheVariants.{Idle, Ended, Runs}
@@ -31,7 +32,9 @@ some_left : (words : ℕ) (at : Stage) → 1 ≤ steps_at words at
 some_left words stage.LockExclusive = omega arith
 some_left words stage.PeekChecksum = omega arith
 some_left words (stage.PeekSequence peek) = omega arith
-some_left words stage.LockShared = omega arith
+some_left words (stage.LockShared Partial) = omega arith
+some_left words (stage.LockShared Full) = omega arith
+some_left words (stage.Continue loading) = omega arith
 some_left words (stage.Load loading) = omega arith
 some_left words stage.Size = omega arith
 some_left words (stage.Reserve plan) = omega arith

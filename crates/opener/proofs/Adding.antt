@@ -17,7 +17,6 @@ use Rattle.opener.specs.Continues.{SameCall}
 use Rattle.opener.specs.Counted.{counted, with_stored}
 use Rattle.loader.specs.declared.loaded.Image.{Image}
 use Rattle.opener.specs.Ends.{GoesOn, IsDone, Finishes, Leaves, LeavesBy, IsReady, IsReadyBy, Notices, OnImage, Reads, ReadsBy, Replies, lock_by}
-use Rattle.opener.specs.Steps.{loads_next}
 use Rattle.opener.specs.declared.calls.Step.{Step}
 use Rattle.opener.specs.declared.calls.Step.TheVariants as step
 use Rattle.opener.specs.declared.calls.Stop.{Stop}
@@ -188,14 +187,6 @@ reads_none next holds taken to reads = go (lock_by holds taken) reads
     go : (lock : Option LockKind) → ReadsBy lock to → stop_found (Runs next to) ≡ None
     go None is = ap (λ z. stop_found (Runs next z)) is
     go (Some kind) (loading, is, fresh) = ap (λ z. stop_found (Runs next z)) is
-
--- a load is next
-pub reads_load : (next : Running) (holds : ℕ) (taken : Option LockKind) (to : Stage) → Reads holds taken to → loads_next (Runs next to) ≡ true
-reads_load next holds taken to reads = go (lock_by holds taken) reads
-  where
-    go : (lock : Option LockKind) → ReadsBy lock to → loads_next (Runs next to) ≡ true
-    go None is = ap (λ z. loads_next (Runs next z)) is
-    go (Some kind) (loading, is, fresh) = ap (λ z. loads_next (Runs next z)) is
 
 pub notices_none : (next : Running) (image : Option Image) (holds : ℕ) (taken : Option LockKind) (to : Stage) → Notices image holds taken to → stop_found (Runs next to) ≡ None
 notices_none next None holds taken to notices = reads_none next holds taken to notices

@@ -83,7 +83,7 @@ module _ (o : OpenerState) (now changes : ℕ) (next : Stage) where
       go : (b : Bool) → (o.holds == 0) ≡ b → ReadsBy (cond b None (Some Exclusive)) next → MayFirst o (begun_at asked now changes) next
       go true e is =
           subst (MayFirst o (begun_at asked now changes)) (sym is)
-          (record { at = ((λ some. refl), (plain, no_write (is_write asked) refl), (none_held o.holds e, refl)); calm = refl; owes = λ s none. none; told = λ start past. tt })
+          (record { at = ((λ some. refl), (plain, no_write (is_write asked) refl), (none_held o.holds e, refl, tt)); calm = refl; owes = λ s none. none; told = λ start past. tt })
         where
           no_write : (w : Bool) → is_write asked ≡ w → is_write asked ≡ false
           no_write true f = absurd (omega (arith, none_held o.holds e, write f))

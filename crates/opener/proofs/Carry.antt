@@ -41,7 +41,8 @@ use Rattle.opener.specs.State.{OpenerState}
 use Rattle.opener.specs.Calls.{is_write}
 use Rattle.opener.specs.Ends.{OnImage, lock_by}
 use Rattle.opener.specs.Opener.{Facts, Knows, Tied, IsShown, WasShown, ImageIs, PlanIs, ReplyIs, ChangeIs, EndIs, EndsNow, IsLastPlace, KeepsWords, MatchesRegion, StageIs, WorkIs, IsAt, IsAtStage, Owes, image_at, lock_in, is_ended, is_storing, IsCalm}
-use Rattle.opener.specs.Plans.{IsPlanOf, IsSoundImage}
+use Rattle.loader.specs.PartialLoads.{HasLoadedPart, IsSoundImage, kept_image}
+use Rattle.opener.specs.Plans.{IsPlanOf}
 use Rattle.opener.specs.Writes.{MayStart, HasStanding, Leads, PlanLeads, commits_of, first_events}
 use Rattle.opener.specs.declared.plan.Plan.{Plan}
 use Rattle.opener.specs.declared.plan.Plan.TheVariants.{Append, Rewrite}
@@ -49,7 +50,7 @@ use Rattle.opener.specs.declared.work.Running.{Running}
 use Rattle.opener.specs.declared.work.End.{End}
 use Rattle.opener.specs.declared.work.End.TheVariants as end
 use Rattle.opener.specs.declared.work.Stage.{Stage}
-use Rattle.opener.specs.declared.work.Stage.TheVariants.{PeekChecksum, PeekSequence, LockShared, LockExclusive, Load, Size, Reserve, Store, Unlock, Hold, Release}
+use Rattle.opener.specs.declared.work.Stage.TheVariants.{PeekChecksum, PeekSequence, LockShared, LockExclusive, Continue, Load, Size, Reserve, Store, Unlock, Hold, Release}
 use Rattle.opener.specs.declared.work.Work.{Work}
 use Rattle.opener.specs.declared.work.Work.TheVariants.{Idle, Ended, Runs}
 
@@ -219,8 +220,10 @@ module _ (o : OpenerState) (running : Running) (start : Region) (others past : L
       (0 < o.holds → running.taken ≡ None) → IsAtStage o running stage → StageIs o running stage start past → StageIs o running stage start (others ++ past)
   stage_later PeekChecksum rests own at is = tt
   stage_later (PeekSequence peek) rests own at is = peeked_later peek is
-  stage_later LockShared rests own at is = tt
+  stage_later (LockShared extent) rests own at is = tt
   stage_later LockExclusive rests own at is = tt
+  stage_later (Continue loading) rests own at is =
+      (subst (HasLoadedPart loading) (sym (same at.1).0) is.0, image_later (Some (kept_image loading.map loading)) start others past l is.1)
   stage_later (Load loading) rests own at is = subst (HasLoaded loading) (sym (same at.1).0) is
   stage_later Size rests own at is = go o.image is
     where
@@ -321,8 +324,9 @@ unreserved o Idle s calm owes = owes
 unreserved o Ended s calm owes = owes
 unreserved o (Runs running PeekChecksum) s calm owes = owes
 unreserved o (Runs running (PeekSequence peek)) s calm owes = owes
-unreserved o (Runs running LockShared) s calm owes = owes
+unreserved o (Runs running (LockShared extent)) s calm owes = owes
 unreserved o (Runs running LockExclusive) s calm owes = owes
+unreserved o (Runs running (Continue loading)) s calm owes = owes
 unreserved o (Runs running (Load loading)) s calm owes = owes
 unreserved o (Runs running Size) s calm owes = owes
 unreserved o (Runs running (Reserve plan)) s calm owes = owes
@@ -337,8 +341,9 @@ owes_nothing o Idle s calm none = none
 owes_nothing o Ended s calm none = none
 owes_nothing o (Runs running PeekChecksum) s calm none = none
 owes_nothing o (Runs running (PeekSequence peek)) s calm none = none
-owes_nothing o (Runs running LockShared) s calm none = none
+owes_nothing o (Runs running (LockShared extent)) s calm none = none
 owes_nothing o (Runs running LockExclusive) s calm none = none
+owes_nothing o (Runs running (Continue loading)) s calm none = none
 owes_nothing o (Runs running (Load loading)) s calm none = none
 owes_nothing o (Runs running Size) s calm none = none
 owes_nothing o (Runs running (Reserve plan)) s calm none = none

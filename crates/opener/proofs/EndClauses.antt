@@ -1,5 +1,5 @@
 -- What a stage's clauses say where its call goes on, or is over.
-use Rattle.std.proofs.Common.{◌≡◌, ℕ, true, refl, sym, ◌∙◌, subst, ap, inr, lit≤}
+use Rattle.std.proofs.Common.{◌≡◌, ℕ, refl, sym, ◌∙◌, subst, ap, inr, lit≤}
 use Rattle.std.specs.Prelude.{Option, Some, None, IfSome, ⊤}
 use Rattle.change_log.specs.declared.call.Answer.{Answer}
 use Rattle.change_log.specs.declared.call.Call.{Call}
@@ -12,7 +12,7 @@ use Rattle.opener.specs.Calls.{IsPlain, holds_after}
 use Rattle.opener.specs.Continues.{SameCall}
 use Rattle.opener.specs.Ends.{Finishes, GoesOn, Leaves, LeavesBy, answer_of}
 use Rattle.opener.specs.Opener.{HasCause, HasReason, KeepsCall, MakesOne, MayEnd, OnAnswer, stop_found}
-use Rattle.opener.specs.Steps.{ActsAt, KeepsImage, still_looks}
+use Rattle.opener.specs.Steps.{ActsAt, IsStillKept, KeepsImage}
 use Rattle.opener.specs.declared.calls.Step.{Step}
 use Rattle.opener.specs.declared.calls.Step.TheVariants as step
 use Rattle.opener.specs.declared.calls.Stop.{Stop}
@@ -119,30 +119,31 @@ pub going_acts : (here : Stage) (old : Option Image) (next : Running) (stage : S
 going_acts here old next stage mid result new s t carried on =
     subst (λ r. ActsAt r here old new.work s t) (sym on.0) (subst (λ (n : OpenerState). ActsAt step.Going here old n.work s t) (sym on.1) carried)
 
+-- what it did where it ends with an answer
+abbrev pub EndActs : End → Stage → Option Image → Work → ShareState → ShareState → Type 0
+EndActs (end.Answer place reply) here old new s t = (a : Answer) → ActsAt (step.Answered a) here old new s t
+EndActs (end.Stop why) here old new s t = ⊤
+
+-- or with any end
+pub end_acts : (how : End) (here : Stage) (old : Option Image) (new : Work) (s t : ShareState) → ((a : Answer) → ActsAt (step.Answered a) here old new s t) → EndActs how here old new s t
+end_acts (end.Answer place reply) here old new s t acts = acts
+end_acts (end.Stop why) here old new s t acts = tt
+
 pub finishes_acts : (here : Stage) (old : Option Image) (next : Running) (how : End) (ended : ℕ) (mid : OpenerState) (result : Step) (new : OpenerState) (s t : ShareState) →
-    ((a : Answer) → ActsAt (step.Answered a) here old new.work s t) → Finishes next how ended mid result new → ActsAt result here old new.work s t
+    EndActs how here old new.work s t → Finishes next how ended mid result new → ActsAt result here old new.work s t
 finishes_acts here old next (end.Answer place reply) ended mid result new s t carried is = subst (λ r. ActsAt r here old new.work s t) (sym is.0) (carried (answer_of mid.who next place ended reply))
 finishes_acts here old next (end.Stop stop) ended mid result new s t carried is = subst (λ r. ActsAt r here old new.work s t) (sym is.0) tt
 
 pub leaves_acts : (here : Stage) (old : Option Image) (next : Running) (how : End) (ended : ℕ) (mid : OpenerState) (result : Step) (new : OpenerState) (s t : ShareState) →
-    ActsAt step.Going here old (Runs next (Unlock how)) s t → ((a : Answer) → ActsAt (step.Answered a) here old new.work s t) → Leaves next how ended mid result new → ActsAt result here old new.work s t
+    ActsAt step.Going here old (Runs next (Unlock how)) s t → EndActs how here old new.work s t → Leaves next how ended mid result new → ActsAt result here old new.work s t
 leaves_acts here old next how ended mid result new s t goes answers leaves = go next.taken leaves
   where
     go : (taken : Option LockKind) → LeavesBy taken next how ended mid result new → ActsAt result here old new.work s t
     go None is = finishes_acts here old next how ended mid result new s t answers is
     go (Some kind) is = going_acts here old next (Unlock how) mid result new s t goes is
 
--- where it is to stop, it isn't answered
-pub stops_acts : (here : Stage) (old : Option Image) (next : Running) (stop : Stop) (ended : ℕ) (mid : OpenerState) (result : Step) (new : OpenerState) (s t : ShareState) →
-    ActsAt step.Going here old (Runs next (Unlock (end.Stop stop))) s t → Leaves next (end.Stop stop) ended mid result new → ActsAt result here old new.work s t
-stops_acts here old next stop ended mid result new s t goes leaves = go next.taken leaves
-  where
-    go : (taken : Option LockKind) → LeavesBy taken next (end.Stop stop) ended mid result new → ActsAt result here old new.work s t
-    go None is = subst (λ r. ActsAt r here old new.work s t) (sym is.0) tt
-    go (Some kind) is = going_acts here old next (Unlock (end.Stop stop)) mid result new s t goes is
-
 -- and the image is kept on
 pub going_image : (here : Stage) (next : Running) (stage : Stage) (mid : OpenerState) (old : Option Image) (result : Step) (new : OpenerState) (t : ShareState) →
-    (still_looks stage ≡ true → (still_looks here ≡ true) × (mid.image ≡ old)) → GoesOn next stage mid result new → KeepsImage result here old new t
+    IsStillKept (Runs next stage) mid.image here old → GoesOn next stage mid result new → KeepsImage result here old new t
 going_image here next stage mid old result new t keeps on =
     subst (λ r. KeepsImage r here old new t) (sym on.0) (subst (λ (n : OpenerState). KeepsImage step.Going here old n t) (sym on.1) keeps)

@@ -24,7 +24,7 @@ use Rattle.opener.specs.Steps.{IsPlaceOf, KeepsImage, Steps}
 use Rattle.opener.proofs.Added.{adds_quietly, unlock_quietly}
 use Rattle.opener.proofs.Adding.{finishes_made, finishes_counts, none_more}
 use Rattle.opener.proofs.Counting.{unlocked_counted}
-use Rattle.opener.proofs.EndClauses.{finishes_call, finishes_acts}
+use Rattle.opener.proofs.EndClauses.{end_acts, finishes_call, finishes_acts}
 use Rattle.opener.proofs.Falling.{finishes_falls}
 use Rattle.opener.proofs.StopClauses.{same_call, takes_none}
 use Rattle.opener.proofs.Storing.{finishes_stored}
@@ -108,7 +108,7 @@ unlocks {o} {running} {how} {result} {new} {s} {t} tied ended goes is count =
       call = finishes_call o.who o.holds running running how ended o result new (same_call running) tied.at.1 tied.at.2.1 refl refl is;
       cause = unlocked_cause o running how ended result new s t is;
       takes = takes_none (Runs running (stage.Unlock how)) s t goes.after.holds;
-      acts = finishes_acts (stage.Unlock how) o.image running how ended o result new s t (λ a. tt) is;
+      acts = finishes_acts (stage.Unlock how) o.image running how ended o result new s t (end_acts how (stage.Unlock how) o.image new.work s t (λ a. tt)) is;
       answer = unlocked_answer o running s t goes how ended result new tied count is;
       place = unlocked_place o running s t goes how ended result new tied count is;
       image = unlocked_image o running s t goes how ended result new tied is;

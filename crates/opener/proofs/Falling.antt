@@ -24,9 +24,10 @@ use Rattle.opener.specs.State.{OpenerState}
 use Rattle.opener.specs.Begins.{IsFirst, IsFirstPlain}
 use Rattle.opener.specs.Bound.{Falls, Shortens, grown_by, next_growth, size_met, size_planned, steps_at, steps_left, stores_left}
 use Rattle.opener.specs.Calls.{AfterStop, is_write}
-use Rattle.opener.specs.Ends.{Finishes, GoesOn, IsDone, IsReady, IsReadyBy, Leaves, LeavesBy, Notices, OnImage, Reads, ReadsBy, Waits, Written, lock_by, sized_image}
+use Rattle.opener.specs.Ends.{Finishes, GoesOn, IsDone, IsReady, IsReadyBy, Leaves, LeavesBy, Notices, OnImage, ReadsBy, Waits, Written, lock_by, sized_image}
 use Rattle.opener.specs.Opener.{ImageIs, IsImage, Tied, running_as}
-use Rattle.opener.specs.Plans.{IsPlanOf, IsSoundImage, events_in}
+use Rattle.loader.specs.PartialLoads.{IsSoundImage}
+use Rattle.opener.specs.Plans.{IsPlanOf, events_in}
 use Rattle.opener.specs.Writes.{first_events}
 use Rattle.opener.specs.declared.calls.Step.{Step}
 use Rattle.opener.specs.declared.plan.Plan.{Plan}
@@ -34,6 +35,8 @@ use Rattle.opener.specs.declared.plan.Plan.TheVariants.{Append, Rewrite}
 use Rattle.opener.specs.declared.work.End.{End}
 use Rattle.opener.specs.declared.work.End.TheVariants as end
 use Rattle.opener.specs.declared.work.Running.{Running}
+use Rattle.opener.specs.declared.work.Extent.{Extent}
+use Rattle.opener.specs.declared.work.Extent.TheVariants.{Partial, Full}
 use Rattle.opener.specs.declared.work.Stage.{Stage}
 use Rattle.opener.specs.declared.work.Stage.TheVariants as stage
 use Rattle.opener.specs.declared.work.Work.{Work}
@@ -54,7 +57,9 @@ pub some_step : (stage : Stage) (words : ℕ) → 0 < steps_at words stage
 some_step stage.LockExclusive words = omega arith
 some_step stage.PeekChecksum words = omega arith
 some_step (stage.PeekSequence peek) words = omega arith
-some_step stage.LockShared words = omega arith
+some_step (stage.LockShared Partial) words = omega arith
+some_step (stage.LockShared Full) words = omega arith
+some_step (stage.Continue loading) words = omega arith
 some_step (stage.Load loading) words = omega arith
 some_step stage.Size words = omega arith
 some_step (stage.Reserve plan) words = omega arith
@@ -130,21 +135,10 @@ module _ (running next : Running) (t : ShareState) where
   pub checksum_shorter : (peek : _) → Shortens (Runs running stage.PeekChecksum) (Runs next (stage.PeekSequence peek)) t
   checksum_shorter peek = plainly_shorter (Runs running stage.PeekChecksum) (Runs next (stage.PeekSequence peek)) t refl (λ words. omega arith)
 
-  pub locked_shorter : (loading : Load) → Shortens (Runs running stage.LockShared) (Runs next (stage.Load loading)) t
-  locked_shorter loading = plainly_shorter (Runs running stage.LockShared) (Runs next (stage.Load loading)) t refl (λ words. omega arith)
-
-  -- an image that isn't current
-  pub reading_shorter : (peek : _) (holds : ℕ) (taken : Option LockKind) (next_stage : Stage) → Reads holds taken next_stage →
-      Shortens (Runs running (stage.PeekSequence peek)) (Runs next next_stage) t
-  reading_shorter peek holds taken next_stage reads = go (lock_by holds taken) reads
-    where
-      go : (lock : Option LockKind) → ReadsBy lock next_stage → Shortens (Runs running (stage.PeekSequence peek)) (Runs next next_stage) t
-      go None is =
-          subst (λ z. Shortens (Runs running (stage.PeekSequence peek)) (Runs next z) t) (sym is)
-          (plainly_shorter (Runs running (stage.PeekSequence peek)) (Runs next stage.LockShared) t refl (λ words. omega arith))
-      go (Some kind) (loading, is, fresh) =
-          subst (λ z. Shortens (Runs running (stage.PeekSequence peek)) (Runs next z) t) (sym is)
-          (plainly_shorter (Runs running (stage.PeekSequence peek)) (Runs next (stage.Load loading)) t refl (λ words. omega arith))
+  -- a shared lock for a load
+  pub asked_shorter : (peek : _) (extent : Extent) → Shortens (Runs running (stage.PeekSequence peek)) (Runs next (stage.LockShared extent)) t
+  asked_shorter peek Partial = plainly_shorter (Runs running (stage.PeekSequence peek)) (Runs next (stage.LockShared Partial)) t refl (λ words. omega arith)
+  asked_shorter peek Full = plainly_shorter (Runs running (stage.PeekSequence peek)) (Runs next (stage.LockShared Full)) t refl (λ words. omega arith)
 
   -- the lock of a write is taken
   pub exclusive_shorter : (image : Option Image) (holds : ℕ) (taken : Option LockKind) (next_stage : Stage) → Notices image holds taken next_stage →
@@ -157,7 +151,7 @@ module _ (running next : Running) (t : ShareState) where
       go : (lock : Option LockKind) → ReadsBy lock next_stage → Shortens (Runs running stage.LockExclusive) (Runs next next_stage) t
       go None is =
           subst (λ z. Shortens (Runs running stage.LockExclusive) (Runs next z) t) (sym is)
-          (plainly_shorter (Runs running stage.LockExclusive) (Runs next stage.LockShared) t refl (λ words. omega arith))
+          (plainly_shorter (Runs running stage.LockExclusive) (Runs next (stage.LockShared Full)) t refl (λ words. omega arith))
       go (Some kind) (loading, is, fresh) =
           subst (λ z. Shortens (Runs running stage.LockExclusive) (Runs next z) t) (sym is)
           (plainly_shorter (Runs running stage.LockExclusive) (Runs next (stage.Load loading)) t refl (λ words. omega arith))

@@ -36,7 +36,8 @@ use Rattle.appender.specs.Appends.{CanAppend, appending}
 use Rattle.opener.specs.State.{OpenerState}
 use Rattle.opener.specs.Ends.{lock_by}
 use Rattle.opener.specs.Opener.{Tied, Facts, running_as}
-use Rattle.opener.specs.Plans.{CanWrite, IsSoundStanding, events_in}
+use Rattle.loader.specs.PartialLoads.{IsSoundStanding}
+use Rattle.opener.specs.Plans.{CanWrite, events_in}
 use Rattle.opener.specs.Writes.{Follows, HasStanding, Leads, OwesPlan, commits_of}
 use Rattle.opener.specs.declared.plan.Plan.TheVariants.{Append, Rewrite}
 use Rattle.opener.specs.declared.work.Running.{Running}

@@ -20,7 +20,7 @@ use Rattle.opener.specs.State.{OpenerState}
 use Rattle.opener.specs.Calls.{IsPlain, is_write}
 use Rattle.opener.specs.Ends.{Leaves, LeavesBy, OnImage, answer_of, lock_by}
 use Rattle.opener.specs.Opener.{Tied, ImageIs, EndIs, EndsNow, IsLastPlace, KeepsWords, MayEnd, OnAnswer, IsAnswer, IsCalm, running_as}
-use Rattle.opener.specs.Plans.{IsSoundImage}
+use Rattle.loader.specs.PartialLoads.{IsSoundImage}
 use Rattle.opener.specs.Fresh.{answers_by_look}
 use Rattle.opener.specs.Steps.{IsKeptBy, IsPlaceOf, KeepsImage, peek_of}
 use Rattle.opener.specs.declared.calls.Step.{Step}
@@ -165,8 +165,9 @@ kept_by at mid next place reply old t keeps told = go at keeps told
     go stage.Hold keeps told = keeps refl
     go stage.Release keeps told = keeps refl
     go stage.PeekChecksum keeps told = words told
-    go stage.LockShared keeps told = words told
+    go (stage.LockShared extent) keeps told = words told
     go stage.LockExclusive keeps told = words told
+    go (stage.Continue loading) keeps told = words told
     go (stage.Load loading) keeps told = words told
     go stage.Size keeps told = words told
     go (stage.Reserve plan) keeps told = words told

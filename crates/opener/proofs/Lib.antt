@@ -8,11 +8,13 @@ pub mod EndClauses
 pub mod Ended
 pub mod Falling
 pub mod Followed
+pub mod GoneOn
 pub mod Holds
 pub mod TriedKinds
 pub mod Leading
 pub mod Leaves
 pub mod Leaving
+pub mod LoadBegins
 pub mod Loads
 pub mod Locked
 pub mod Noticed

@@ -29,10 +29,11 @@ use Rattle.region_words.proofs.Telling.{told_and, told_map}
 use Rattle.loader.specs.Loads.{IsLoadOf, IsLoadedWhole, IsRefusedFor, Load as Loading, loads_of}
 use Rattle.loader.specs.declared.loaded.Image.{Image}
 use Rattle.loader.specs.declared.loaded.Loaded.{Loaded}
+use Rattle.loader.proofs.Finished.{sound_image}
 use Rattle.opener.specs.State.{OpenerState}
 use Rattle.opener.specs.Calls.{IsPlain}
 use Rattle.opener.specs.Ends.{IsLoaded, IsLoadedBy, Leaves, OnImage, lock_by, stop_of}
-use Rattle.opener.specs.Plans.{IsSoundImage}
+use Rattle.loader.specs.PartialLoads.{IsSoundImage}
 use Rattle.opener.specs.Opener.{Tied, Facts, IsImage, IsLastPlace, IsShown, HasReason, KeepsWords, LooksUnder, MatchesRegion, MayEnd, running_as}
 use Rattle.opener.specs.declared.calls.Step.{Step}
 use Rattle.opener.specs.declared.calls.Stop.{Stop}
@@ -47,7 +48,7 @@ use Rattle.opener.proofs.Leaves.{LeftWith, Leaving}
 use Rattle.opener.proofs.Ready.{ReadyWith}
 use Rattle.opener.proofs.RowEnds.{has_map, whole_matches}
 use Rattle.opener.proofs.Same.{SameLock, loaded_same}
-use Rattle.opener.proofs.StepEnds.{loads_ready, loads_stop}
+use Rattle.opener.proofs.StepEnds.{loads_leave, loads_ready}
 use Rattle.opener.specs.Counted.{counted}
 use Rattle.opener.specs.Steps.{Steps}
 use Rattle.opener.proofs.Stages.{looks_on}
@@ -116,14 +117,6 @@ module _ (start : Region) (past : List Event) (region : IsRegion start) (l : Law
         shown = λ ok apart. record { later = []; earlier = past; is = refl; shown = shown_is ok apart };
       }
 
--- what is loaded is sound
-pub sound_load : (found : Loaded) → IsLoadedWhole found → IsSoundImage found.image
-sound_load found w =
-    record {
-      standing = record { file = record { some = w.file.some; pages = w.file.pages; most = w.file.most }; within = omega (arith, w.size, w.within); firm = w.firm };
-      map = w.map;
-    }
-
 module _ (o : OpenerState) (running next : Running) (old : Loading) (result : Step) (new : OpenerState) (s t : ShareState) (tied : Tied (running_as o running (Load old)) s)
     (more : next ≡ record running { loads = counted (running.loads + 1) }) (goes : Goes (loaded s) s t) where
   same : SameLock running next
@@ -166,7 +159,7 @@ module _ (o : OpenerState) (running next : Running) (old : Loading) (result : St
   pub stop_steps : (stop : Stop) (ended : ℕ) → MayEnd (end.Stop stop) → HasReason (Runs running (Load old)) stop s t → ended ≡ changes_told t.told →
       Leaves next (end.Stop stop) ended o result new → Steps o running (Load old) result new s t
   stop_steps stop ended may reason count left =
-      loads_stop tied (λ stored none. none) o next stop ended (leaving o.image tied.sound) goes more tied.at.1 (λ none. absurd cc) left count refl may reason (λ so_far are. are) (λ looks. absurd cc) (stop_left stop)
+      loads_leave tied (λ stored none. none) o next (end.Stop stop) ended (leaving o.image tied.sound) goes more tied.at.1 (λ none. absurd cc) tt left count refl may reason (λ so_far are. are) (λ looks. absurd cc) (λ has. tt) (stop_left stop)
       (load_left running next old t (end.Stop stop))
 
   -- the load is done
@@ -220,7 +213,7 @@ module _ (o : OpenerState) (running next : Running) (old : Loading) (result : St
 
         go : (z : Shown) → found.shown ≡ z → Is z → Steps o running (Load old) result new s t
         go (seen.Whole n) e is =
-            loads_ready tied (λ stored none. none) mid next place place found.image (leaving (Some found.image) (sound_load found sound)) goes more tied.at.1 (λ none ten. accepted) (λ how none ten. accepted) (λ a ten. accepted) is count refl refl looks_next (λ so_far none. none) (λ looks. absurd cc)
+            loads_ready tied (λ stored none. none) mid next place place found.image (leaving (Some found.image) (sound_image found sound)) goes more tied.at.1 (λ none ten. accepted) (λ how replies none ten. accepted) (λ a ten. accepted) is count refl refl looks_next (λ so_far none. none) (λ looks. absurd cc)
             (λ has. omega (arith, has, last, ap (λ (r : Running). r.loads) more)) (λ has read. omega (arith, has, last, ap (λ (r : Running). r.loads) more)) (whole_ready n e) (plainly_shorter _ _ t refl (λ words. omega arith)) (load_left running next old t)
         go (seen.Header n) e is = stops (seen.Header n) (λ k both. absurd cc) e is
         go (seen.Last n) e is = stops (seen.Last n) (λ k both. absurd cc) e is

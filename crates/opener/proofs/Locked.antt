@@ -1,5 +1,5 @@
 -- A write has taken its lock.
-use Rattle.std.proofs.Common.{◌≡◌, arith, false, List, [], ◌∷◌, refl, sym, ◌∙◌, subst}
+use Rattle.std.proofs.Common.{◌≡◌, ℕ, arith, false, List, [], ◌∷◌, refl, sym, ◌∙◌, subst}
 use Rattle.std.specs.Prelude.{Option, Some, None, ⊤}
 use Rattle.lock_rules.specs.declared.table.LockKind.{LockKind}
 use Rattle.lock_rules.specs.declared.table.LockKind.TheVariants.{Exclusive}
@@ -16,6 +16,7 @@ use Rattle.opener.specs.Calls.{IsPlain}
 use Rattle.opener.specs.Plans.{CanWrite}
 use Rattle.opener.specs.Continues.{SameCall}
 use Rattle.opener.specs.Ends.{Notices, ReadsBy, lock_by}
+use Rattle.opener.specs.Steps.{IsStillKept}
 use Rattle.opener.specs.Opener.{Tied, IsAtStage, Owes, StageIs, Suits, is_storing, running_as}
 use Rattle.opener.specs.declared.work.Running.{Running}
 use Rattle.opener.specs.declared.work.Stage.{Stage}
@@ -59,6 +60,15 @@ may_notice o next stage taken can mine same (Some i) e is =
       owes = λ s none. none;
       told = λ start past. tt;
     })
+
+-- the image is still kept
+pub notices_kept : (next : Running) (image : Option Image) (holds : ℕ) (taken : Option LockKind) (to : Stage) → Notices image holds taken to → IsStillKept (Runs next to) image LockExclusive image
+notices_kept next (Some i) holds taken to is = subst (λ z. IsStillKept (Runs next z) (Some i) LockExclusive (Some i)) (sym is) (λ looks. (refl, refl))
+notices_kept next None holds taken to reads = go (lock_by holds taken) reads
+  where
+    go : (lock : Option LockKind) → ReadsBy lock to → IsStillKept (Runs next to) None LockExclusive None
+    go None is = subst (λ z. IsStillKept (Runs next z) None LockExclusive None) (sym is) (λ looks. (refl, refl))
+    go (Some kind) (loading, is, fresh) = subst (λ z. IsStillKept (Runs next z) None LockExclusive None) (sym is) (λ looks. (refl, refl))
 
 -- it looks at the region next
 pub exclusive_tied : (o : OpenerState) (running next : Running) (stage : Stage) (s t : ShareState) → Tied (running_as o running LockExclusive) s → SameCall running next → next.taken ≡ Some Exclusive →

@@ -5,7 +5,6 @@ use Rattle.std.proofs.lemmas.List.{take-append-le}
 use Rattle.std.proofs.lemmas.Bool.Decides.{nat_tests}
 use Rattle.crc_words.specs.Crc.{crc}
 use Rattle.change_log.specs.Acts.{replay}
-use Rattle.lock_rules.specs.declared.table.LockKind.{LockKind}
 use Rattle.lock_rules.specs.declared.table.LockKind.TheVariants.{Exclusive}
 use Rattle.region_words.specs.Region.{Region, IsRegion, IsAccepted, record_of, payload_of, base}
 use Rattle.region_words.specs.Past.{region_after, changes_of}
@@ -23,15 +22,18 @@ use Rattle.region_words.proofs.ReadLaws.{apart_front, changes_more}
 use Rattle.region_words.proofs.RowsStand.{agrees_crc}
 use Rattle.region_words.proofs.Shows.{whole_shown}
 use Rattle.region_words.proofs.Telling.{told_map}
+use Rattle.loader.specs.PartialLoads.{IsSoundImage}
 use Rattle.loader.specs.declared.loaded.Image.{Image}
 use Rattle.opener.specs.State.{OpenerState}
-use Rattle.opener.specs.Steps.{FindsCurrent}
+use Rattle.opener.specs.Steps.{FindsLoad}
 use Rattle.opener.specs.Calls.{IsPlain, is_write}
-use Rattle.opener.specs.Ends.{Reads, ReadsBy, is_current, lock_by}
+use Rattle.opener.specs.Ends.{OnImage, is_current, lock_by}
+use Rattle.opener.specs.Extents.{CanBegin, load_after}
 use Rattle.opener.specs.Opener.{Facts, Tied, ImageIs, IsShown, LooksUnder, WasShown, WasPeeked, running_as}
 use Rattle.opener.specs.declared.work.Running.{Running}
-use Rattle.opener.specs.declared.work.Stage.{Stage}
-use Rattle.opener.specs.declared.work.Stage.TheVariants.{PeekSequence, LockShared, Load}
+use Rattle.opener.specs.declared.work.Extent.{Extent}
+use Rattle.opener.specs.declared.work.Extent.TheVariants.{Partial, Full}
+use Rattle.opener.specs.declared.work.Stage.TheVariants.{PeekSequence, LockShared}
 use Rattle.opener.proofs.Carry.{none_reserved, tied_after, told_call, more_changes}
 use Rattle.opener.proofs.Leaves.{Leaving}
 use Rattle.opener.proofs.Ready.{ReadyWith}
@@ -156,42 +158,51 @@ module _ (o : OpenerState) (running next : Running) (peek : Peek) (s t : ShareSt
             rests = λ mine apart. facts.rests (lock ∙ mine) refl apart;
           }
 
-  -- else the region is loaded
-  pub reading_then : (stage : Stage) → Reads o.holds running.taken stage → Tied (running_as o next stage) t
-  reading_then stage reads = go (lock_by o.holds running.taken) refl reads
+  free : lock_by o.holds running.taken ≡ None → (o.holds ≡ 0) × (running.taken ≡ None)
+  free none = go (o.holds == 0) refl none
     where
-      free : (b : Bool) → (o.holds == 0) ≡ b → cond b running.taken (Some Exclusive) ≡ None → (o.holds ≡ 0) × (running.taken ≡ None)
-      free true zero none = (grind (arith, nat_tests, zero), none)
-      free false zero none = absurd cc
+      go : (b : Bool) → (o.holds == 0) ≡ b → cond b running.taken (Some Exclusive) ≡ None → (o.holds ≡ 0) × (running.taken ≡ None)
+      go true zero none = (grind (arith, nat_tests, zero), none)
+      go false zero none = absurd cc
 
-      unwritten : lock_by o.holds running.taken ≡ None → is_write next.call ≡ false
-      unwritten none = read (is_write next.call) refl
-        where
-          read : (b : Bool) → is_write next.call ≡ b → b ≡ false
-          read false e = refl
-          read true e = let both = sym none ∙ (lock ∙ looks_next e) in absurd cc
+  unwritten : lock_by o.holds running.taken ≡ None → is_write next.call ≡ false
+  unwritten none = read (is_write next.call) refl
+    where
+      read : (b : Bool) → is_write next.call ≡ b → b ≡ false
+      read false e = refl
+      read true e = let both = sym none ∙ (lock ∙ looks_next e) in absurd cc
 
-      go : (k : Option LockKind) → lock_by o.holds running.taken ≡ k → ReadsBy k stage → Tied (running_as o next stage) t
-      go None e is =
-          let f = free (o.holds == 0) refl e in
-          subst (λ z. Tied (running_as o next z) t) (sym is)
-          (tied_after (running_as o running (PeekSequence peek)) (running_as o next LockShared) s t (loaded s) (λ start past. ⊤) tied goes.after refl tied.ended tied.handled
-          (tied.holds ∙ lock) tied.deep tied.sound
-          ((λ some. same.taken ∙ tied.at.0 some), (subst IsPlain (sym same.same.call) tied.at.1, unwritten e), (f.0, same.taken ∙ f.1)) (none_reserved s t (loaded s) goes.after tied.owes) (nothing_told t.told)
-          (λ start past region lawful mine facts k. record { image = facts.image; rests = λ held calm. facts.rests (lock ∙ held) refl; work = (omega (arith, same.same.begun, facts.work.0), tt) }))
-      go (Some kind) e is =
-          subst (λ z. Tied (running_as o next z) t) (sym is.1)
-          (tied_after (running_as o running (PeekSequence peek)) (running_as o next (Load is.0)) s t (loaded s) (λ start past. ⊤) tied goes.after refl tied.ended tied.handled
-          (tied.holds ∙ lock) tied.deep tied.sound
-          ((λ some. same.taken ∙ tied.at.0 some), subst IsPlain (sym same.same.call) tied.at.1, (is.2.going, (λ none. let both = sym e ∙ (lock ∙ none) in absurd cc), looks_next)) (none_reserved s t (loaded s) goes.after tied.owes) (nothing_told t.told)
-          (λ start past region lawful mine facts k. record {
-            image = facts.image;
-            rests = λ held calm. facts.rests (lock ∙ held) refl;
-            work = (omega (arith, same.same.begun, facts.work.0), is.2.told (region_after start past));
-          }))
+  -- where no lock is held, a shared one is asked for before a load
+  pub asks_shared : (extent : Extent) → CanBegin extent o.image → lock_by o.holds running.taken ≡ None → Tied (running_as o next (LockShared extent)) t
+  asks_shared extent can none =
+      let f = free none in
+      tied_after (running_as o running (PeekSequence peek)) (running_as o next (LockShared extent)) s t (loaded s) (λ start past. ⊤) tied goes.after refl tied.ended tied.handled (tied.holds ∙ lock)
+      tied.deep tied.sound
+      ((λ some. same.taken ∙ tied.at.0 some), (subst IsPlain (sym same.same.call) tied.at.1, unwritten none), (f.0, same.taken ∙ f.1, can)) (none_reserved s t (loaded s) goes.after tied.owes) (nothing_told t.told)
+      (λ start past region lawful mine facts k. record { image = facts.image; rests = λ held calm. facts.rests (lock ∙ held) refl; work = (omega (arith, same.same.begun, facts.work.0), tt) })
 
--- what the words that were peeked say of the image that is kept
-pub finds : (image : Option Image) (peek : Peek) (sequence : ℕ) (found : Bool) (t : ShareState) → is_current image peek sequence ≡ found → OnTold t.told (λ h. sequence ≡ sequence_at h.start h.past) →
-    FindsCurrent found peek image t
-finds image peek sequence found t is told =
-    told_map t.told (λ h. sequence ≡ sequence_at h.start h.past) (λ h. is_current image peek (sequence_at h.start h.past) ≡ found) (λ h same. sym (ap (is_current image peek) same) ∙ is) told
+-- a load of so much may begin where the words that were peeked ask for it
+pub can_begin : (image : Option Image) (peek : Peek) (sequence : ℕ) (extent : Extent) → load_after image peek sequence ≡ Some extent → OnImage image IsSoundImage → CanBegin extent image
+can_begin image peek sequence Full asked sound = tt
+can_begin None peek sequence Partial asked sound = absurd cc
+can_begin (Some i) peek sequence Partial asked sound = sound
+
+-- none is asked for where both are those of the image that is kept
+pub none_asked : (image : Option Image) (peek : Peek) (sequence : ℕ) → load_after image peek sequence ≡ None → IsCurrent image peek sequence
+none_asked None peek sequence e = absurd cc
+none_asked (Some k) peek sequence e = go (k.standing.sequence == sequence) refl (k.standing.checksum == peek.checksum) refl e
+  where
+    same : (a b : ℕ) → (a == b) ≡ true → a ≡ b
+    same a b t = grind (arith, nat_tests)
+
+    go : (a : Bool) → (k.standing.sequence == sequence) ≡ a → (b : Bool) → (k.standing.checksum == peek.checksum) ≡ b → cond a (cond b None (Some Partial)) (Some Full) ≡ None →
+        IsCurrent (Some k) peek sequence
+    go true ea true eb e = record { i = k; kept = refl; checksum = same _ _ eb; sequence_is = same _ _ ea }
+    go true ea false eb e = absurd cc
+    go false ea b eb e = absurd cc
+
+-- the load that the words that were peeked ask for is the one that the region's do
+pub finds_load : (image : Option Image) (peek : Peek) (sequence : ℕ) (extent : Option Extent) (t : ShareState) → load_after image peek sequence ≡ extent →
+    OnTold t.told (λ h. sequence ≡ sequence_at h.start h.past) → FindsLoad extent peek image t
+finds_load image peek sequence extent t is told =
+    told_map t.told (λ h. sequence ≡ sequence_at h.start h.past) (λ h. load_after image peek (sequence_at h.start h.past) ≡ extent) (λ h same. sym (ap (load_after image peek) same) ∙ is) told

@@ -22,7 +22,8 @@ use Rattle.loader.specs.declared.loaded.Image.{Image}
 use Rattle.appender.specs.Appends.{appending}
 use Rattle.write_back.specs.Rewrites.{file_for, rewriting}
 use Rattle.opener.specs.Bound.{grown_by, next_growth, size_left, size_planned, stores_left}
-use Rattle.opener.specs.Plans.{CanWrite, IsSoundImage, IsItemPlan, IsPlanOf, events_in, packing}
+use Rattle.loader.specs.PartialLoads.{IsSoundImage}
+use Rattle.opener.specs.Plans.{CanWrite, IsItemPlan, IsPlanOf, events_in, packing}
 use Rattle.opener.specs.declared.plan.Plan.{Plan}
 use Rattle.opener.proofs.Planned.{IsEither, either_plan}
 use Rattle.opener.proofs.Planning.{room_after}

@@ -31,7 +31,8 @@ use Rattle.region_words.proofs.RowParts.{length-words}
 use Rattle.loader.specs.declared.loaded.Image.{Image}
 use Rattle.appender.specs.Appends.{CanAppend, appending}
 use Rattle.write_back.specs.Rewrites.{CanBegin, file_for, version_after, rewriting}
-use Rattle.opener.specs.Plans.{CanWrite, IsSoundStanding, IsSoundImage, IsItemPlan, IsClearPlan, IsPlanOf, packing}
+use Rattle.loader.specs.PartialLoads.{IsSoundStanding, IsSoundImage}
+use Rattle.opener.specs.Plans.{CanWrite, IsItemPlan, IsClearPlan, IsPlanOf, packing}
 use Rattle.opener.specs.Writes.{commits_of, commits_in, image_after, CanReserve, IsOwn, IsSoundPlan}
 use Rattle.opener.specs.declared.plan.Plan.{Plan}
 use Rattle.opener.specs.declared.plan.Plan.TheVariants.{Append, Rewrite}

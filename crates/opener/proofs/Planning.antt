@@ -21,7 +21,8 @@ use Rattle.region_words.proofs.FitsAfter.{packed_fits, cleared_fits}
 use Rattle.loader.specs.declared.loaded.Image.{Image}
 use Rattle.appender.specs.Appends.{CanAppend, appending}
 use Rattle.write_back.specs.Rewrites.{IsWriteBack, CanWriteBack, CanBegin, rewriting}
-use Rattle.opener.specs.Plans.{IsSoundStanding, IsSoundImage, IsRoomPlan, fits_behind, packing}
+use Rattle.loader.specs.PartialLoads.{IsSoundStanding, IsSoundImage}
+use Rattle.opener.specs.Plans.{IsRoomPlan, fits_behind, packing}
 use Rattle.opener.specs.declared.plan.Plan.TheVariants.{Rewrite}
 
 -- a put is no removal

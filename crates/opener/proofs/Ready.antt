@@ -35,7 +35,7 @@ use Rattle.opener.specs.declared.work.Stage.{Stage}
 use Rattle.opener.specs.declared.work.Stage.TheVariants.{Size, Unlock}
 use Rattle.opener.specs.declared.work.Work.TheVariants.{Runs}
 use Rattle.opener.proofs.Carry.{none_reserved, tied_after}
-use Rattle.opener.proofs.EndClauses.{EndHasReason, going_answer, going_call, going_acts, going_cause, going_image, leaves_call, leaves_acts, leaves_cause}
+use Rattle.opener.proofs.EndClauses.{EndHasReason, end_acts, going_answer, going_call, going_acts, going_cause, going_image, leaves_call, leaves_acts, leaves_cause}
 use Rattle.opener.proofs.Leaves.{EndsSo, LeftWith, Leaving, leaves_answer, leaves_image, leaves_place, leaves_tied}
 
 -- a plain call that is a write can be made, and one that isn't changes nothing
@@ -178,13 +178,13 @@ module _ (o mid : OpenerState) (i : Image) (running next : Running) (stage : Sta
       go false read (how, replies, leaves) =
           leaves_cause (Runs running stage) next how ended mid result new s t none (ends how read (reply_of how replies)).reason leaves
 
-  pub ready_acts : ActsAt step.Going stage o.image (Runs next Size) s t → ((how : End) → ActsAt step.Going stage o.image (Runs next (Unlock how)) s t) → ((a : Answer) → ActsAt (step.Answered a) stage o.image new.work s t) →
+  pub ready_acts : ActsAt step.Going stage o.image (Runs next Size) s t → ((how : End) → Replies next i place how → ActsAt step.Going stage o.image (Runs next (Unlock how)) s t) → ((a : Answer) → ActsAt (step.Answered a) stage o.image new.work s t) →
       IsReady next place ended mid result new → ActsAt result stage o.image new.work s t
   ready_acts sizes unlocks answers ready = go (is_write next.call) ready
     where
       go : (b : Bool) → IsReadyBy b next place ended mid result new → ActsAt result stage o.image new.work s t
       go true on = going_acts stage o.image next Size mid result new s t sizes on
-      go false (how, replies, leaves) = leaves_acts stage o.image next how ended mid result new s t (unlocks how) answers leaves
+      go false (how, replies, leaves) = leaves_acts stage o.image next how ended mid result new s t (unlocks how (reply_of how replies)) (end_acts how stage o.image new.work s t answers) leaves
 
   pub ready_place : ended ≡ changes_told t.told → IsReady next place ended mid result new → OnAnswer result (λ a. OnTold t.told (λ h. IsPlaceOf (peek_of stage) a))
   ready_place count ready = go (is_write next.call) refl ready

@@ -132,8 +132,9 @@ module _ (o : OpenerState) (start : Region) (others past : List Event) (own : Li
   stays_at c (stage.Unlock (end.Stop stop)) is mine so = stays_free o.who (Runs c (stage.Unlock (end.Stop stop))) start others past own so so.of_call theirs
   stays_at c stage.PeekChecksum is mine so = stays_free o.who (Runs c stage.PeekChecksum) start others past own so so.of_call theirs
   stays_at c (stage.PeekSequence peek) is mine so = stays_free o.who (Runs c (stage.PeekSequence peek)) start others past own so so.of_call theirs
-  stays_at c stage.LockShared is mine so = stays_free o.who (Runs c stage.LockShared) start others past own so so.of_call theirs
+  stays_at c (stage.LockShared extent) is mine so = stays_free o.who (Runs c (stage.LockShared extent)) start others past own so so.of_call theirs
   stays_at c stage.LockExclusive is mine so = stays_free o.who (Runs c stage.LockExclusive) start others past own so so.of_call theirs
+  stays_at c (stage.Continue loading) is mine so = stays_free o.who (Runs c (stage.Continue loading)) start others past own so so.of_call theirs
   stays_at c (stage.Load loading) is mine so = stays_free o.who (Runs c (stage.Load loading)) start others past own so so.of_call theirs
   stays_at c stage.Size is mine so = stays_free o.who (Runs c stage.Size) start others past own so so.of_call theirs
   stays_at c (stage.Reserve plan) is mine so = stays_free o.who (Runs c (stage.Reserve plan)) start others past own so so.of_call theirs

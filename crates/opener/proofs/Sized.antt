@@ -24,7 +24,8 @@ use Rattle.opener.specs.Continues.{SameCall}
 use Rattle.opener.specs.Ends.{OnImage, sized_image, lock_by}
 use Rattle.opener.specs.Opener.{Tied, Facts, HasReason, ImageIs, IsImage, IsSeen, IsShown, MayEnd, PlanIs, image_at, running_as}
 use Rattle.opener.specs.Writes.{commits_in}
-use Rattle.opener.specs.Plans.{CanWrite, IsNotPlanned, IsPlanOf, IsSoundImage, refusal_of}
+use Rattle.loader.specs.PartialLoads.{IsSoundImage}
+use Rattle.opener.specs.Plans.{CanWrite, IsNotPlanned, IsPlanOf, refusal_of}
 use Rattle.opener.specs.declared.calls.Stop.{Stop}
 use Rattle.opener.specs.declared.calls.Stop.TheVariants as why
 use Rattle.opener.specs.declared.plan.Plan.{Plan}

@@ -1,15 +1,15 @@
 -- What an opener knows after each of the stages that take a lock, peek or load.
 use Rattle.std.proofs.Common.{◌≡◌, ℕ, arith, false, List, [], ◌∷◌, length, refl, sym, ◌∙◌, subst, ap}
-use Rattle.std.specs.Prelude.{Option, Some, None, ⊤}
+use Rattle.std.specs.Prelude.{Option, None, ⊤}
 use Rattle.lock_rules.specs.declared.table.LockKind.{LockKind}
-use Rattle.lock_rules.specs.declared.table.LockKind.TheVariants.{Shared, Exclusive}
-use Rattle.lock_rules.specs.declared.table.Tried.TheVariants.{Taken, Busy}
+use Rattle.lock_rules.specs.declared.table.LockKind.TheVariants.{Exclusive}
+use Rattle.lock_rules.specs.declared.table.Tried.TheVariants.{Busy}
 use Rattle.region_words.specs.Region.{Region}
 use Rattle.region_words.specs.Past.{region_after, changes_of}
 use Rattle.region_words.specs.Apart.{Apart}
 use Rattle.region_words.specs.Images.{checksum_at}
 use Rattle.region_words.specs.Told.{OnTold, changes_told}
-use Rattle.region_words.specs.Share.{ShareState, Goes, Tries, loaded, locked, refused}
+use Rattle.region_words.specs.Share.{ShareState, Goes, Tries, loaded, refused}
 use Rattle.region_words.specs.Local.{event_of}
 use Rattle.region_words.specs.declared.event.What.TheVariants.{Lock}
 use Rattle.region_words.specs.declared.event.Event.{Event}
@@ -23,13 +23,13 @@ use Rattle.loader.specs.Loads.{HasLoaded, is_done, Load as Loading}
 use Rattle.opener.specs.State.{OpenerState}
 use Rattle.opener.specs.Calls.{IsPlain, is_write}
 use Rattle.opener.specs.Continues.{SameCall}
-use Rattle.opener.specs.Ends.{IsFresh, lock_by}
+use Rattle.opener.specs.Ends.{lock_by}
 use Rattle.opener.specs.Opener.{Tied, LooksUnder, IsCalm, is_storing, running_as}
 use Rattle.opener.specs.declared.work.Running.{Running}
 use Rattle.opener.specs.declared.work.Stage.{Stage}
-use Rattle.opener.specs.declared.work.Stage.TheVariants.{PeekChecksum, PeekSequence, LockShared, Load}
+use Rattle.opener.specs.declared.work.Stage.TheVariants.{PeekChecksum, PeekSequence, Load}
 use Rattle.opener.specs.declared.work.Work.TheVariants.{Runs}
-use Rattle.opener.proofs.Carry.{none_reserved, owes_nothing, unreserved, tied_after, changes_are, more_changes, image_later, own_if}
+use Rattle.opener.proofs.Carry.{none_reserved, owes_nothing, unreserved, tied_after, changes_are}
 use Rattle.opener.proofs.Stopped.{nothing_told}
 
 -- a write looks at the region as the same call did
@@ -80,24 +80,6 @@ pub locked_rest : (start : Region) (past : List Event) (who : ℕ) → Lawful st
 locked_rest start past who l apart =
     let run = run_of start past l.0 (Apart-front start (event_of who (Lock Exclusive)) past apart) in
     (Between None, subst (Reaches start past) (at_rest start past run.0 l.0 run.1 l.1.possible.1) run.1, refl)
-
--- the shared lock was taken
-pub locked_tied : (o : OpenerState) (running next : Running) (loading : Loading) (s t : ShareState) → Tied (running_as o running LockShared) s → SameCall running next → next.taken ≡ Some Shared →
-    IsFresh loading → Tries Shared Taken s t → Tied (running_as o next (Load loading)) t
-locked_tied o running next loading s t tied same taken fresh tries =
-    let mine : lock_by o.holds next.taken ≡ Some Shared = own_if o.holds next.taken tied.at.2.0 ∙ taken in
-    tied_after (running_as o running LockShared) (running_as o next (Load loading)) s t (locked Shared s) (λ start past. ⊤) tied tries.0.after refl tied.ended tied.handled
-    (sym mine) tied.deep tied.sound
-    ((λ some. absurd (omega (arith, some, tied.at.2.0))), subst IsPlain (sym same.call) tied.at.1.0, (fresh.going, (λ none. let both = sym mine ∙ none in absurd cc), (λ write. let both = sym tied.at.1.1 ∙ ap is_write (sym same.call) ∙ write in absurd cc)))
-    (none_reserved s t (locked Shared s) tries.0.after tied.owes) (nothing_told t.told)
-    (λ start past region lawful lock facts e. record {
-      image = image_later o.image start (event_of s.who (Lock Shared) ∷ []) past lawful facts.image;
-      rests = λ held. let both = sym mine ∙ held in absurd cc;
-      work = (
-        omega (arith, same.begun, facts.work.0, more_changes (event_of s.who (Lock Shared) ∷ []) past),
-        fresh.told (region_after start (event_of s.who (Lock Shared) ∷ past)),
-      );
-    })
 
 -- a load was made
 pub loaded_tied : (o : OpenerState) (running next : Running) (old new : Loading) (s t : ShareState) → Tied (running_as o running (Load old)) s → SameCall running next → next.taken ≡ running.taken →

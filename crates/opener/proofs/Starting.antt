@@ -39,7 +39,8 @@ use Rattle.loader.specs.declared.loaded.Image.{Image}
 use Rattle.appender.specs.Appends.{CanAppend, appending}
 use Rattle.write_back.specs.Rewrites.{CanBegin, file_for, rewriting}
 use Rattle.opener.specs.Opener.{IsCalm, image_at}
-use Rattle.opener.specs.Plans.{CanWrite, IsSoundImage, IsItemPlan, IsPlanOf, fits_behind}
+use Rattle.loader.specs.PartialLoads.{IsSoundImage}
+use Rattle.opener.specs.Plans.{CanWrite, IsItemPlan, IsPlanOf, fits_behind}
 use Rattle.opener.specs.Writes.{IsOwn, MayStart, HasStanding, Leads, PlanLeads, PlanStarts, commits_of}
 use Rattle.opener.specs.declared.plan.Plan.{Plan}
 use Rattle.opener.specs.declared.work.Running.{Running}

@@ -18,23 +18,21 @@ use Rattle.opener.specs.Bound.{Shortens}
 use Rattle.opener.specs.Calls.{AfterStop, IsPlain, IsTried, holds_after, is_write}
 use Rattle.opener.specs.Continues.{SameCall}
 use Rattle.opener.specs.Counted.{counted}
-use Rattle.opener.specs.Ends.{answer_of, GoesOn, IsDone, IsReady, Leaves, Waits, lock_by}
-use Rattle.opener.specs.Opener.{Tied, HasCause, HasReason, IsAnswer, LooksUnder, KeepsCall, MayEnd, OnAnswer, is_storing, running_as, stop_found}
+use Rattle.opener.specs.Ends.{answer_of, GoesOn, IsDone, IsReady, Leaves, Replies, Waits, lock_by}
+use Rattle.opener.specs.Opener.{Tied, HasCause, IsAnswer, LooksUnder, KeepsCall, MayEnd, OnAnswer, is_storing, running_as, stop_found}
 use Rattle.opener.specs.Fresh.{CountedBy, CountsNone, CountsSoFar, HasCounted, answers_by_look}
-use Rattle.opener.specs.Steps.{ActsAt, IsKeptBy, IsPlaceOf, KeepsImage, Steps, peek_of, still_looks}
-use Rattle.opener.specs.declared.calls.Stop.{Stop}
+use Rattle.opener.specs.Steps.{ActsAt, IsKeptBy, IsPlaceOf, IsStillKept, KeepsImage, Steps, peek_of}
 use Rattle.opener.specs.declared.calls.Step.{Step}
 use Rattle.opener.specs.declared.calls.Step.TheVariants as step
 use Rattle.opener.specs.declared.work.Running.{Running}
 use Rattle.opener.specs.declared.work.End.{End}
-use Rattle.opener.specs.declared.work.End.TheVariants as end
 use Rattle.opener.specs.declared.work.Stage.{Stage}
 use Rattle.opener.specs.declared.work.Stage.TheVariants.{Size, Unlock}
 use Rattle.opener.specs.declared.work.Work.TheVariants.{Idle, Runs}
 use Rattle.opener.proofs.Added.{Quietly, adds_quietly, load_quietly, lock_quietly, stopped_adds, tried_adds, waits_adds}
 use Rattle.opener.proofs.Adding.{done_counts, done_made, going_counts, going_made, leaves_counts, leaves_made, load_more, lock_more, ready_counts, ready_made}
 use Rattle.opener.proofs.Counting.{EndCounted, ReadCounted, few_counts, going_counted, leaves_counted, ready_counted, stopped_counted}
-use Rattle.opener.proofs.EndClauses.{EndHasReason, going_answer, going_call, going_acts, going_cause, going_image, leaves_call, leaves_acts, leaves_cause, loads_once, stops_acts}
+use Rattle.opener.proofs.EndClauses.{EndActs, EndHasReason, going_answer, going_call, going_acts, going_cause, going_image, leaves_call, leaves_acts, leaves_cause, loads_once}
 use Rattle.opener.proofs.Falling.{always_told, blocked_falls, done_falls, going_falls, leaves_falls, ready_falls, stopped_falls}
 use Rattle.opener.proofs.Leaves.{LeftWith, Leaving, leaves_answer, leaves_image, leaves_place, leaves_tied}
 use Rattle.opener.proofs.Ready.{ReadyWith, ready_answer, ready_call, ready_acts, ready_cause, ready_image, ready_place, ready_tied}
@@ -154,7 +152,7 @@ module _ {o : OpenerState} {running : Running} {stage : Stage} {result : Step} {
   module _ (calm : StoresNothing stage) (mid : OpenerState) (next : Running) where
     -- the call goes on
     pub goes_on : (loads : ℕ) (lock : Option LockKind) → Quietly loads lock s t → ((kind : LockKind) → lock ≡ Some kind → IsTried (Runs running stage) kind) → (to : Stage) → mid.holds ≡ o.holds → SameCall running next →
-        IsRaised running loads 0 (locks_taken None lock) next.loads next.stores next.locks → ActsAt step.Going stage o.image (Runs next to) s t → (still_looks to ≡ true → (still_looks stage ≡ true) × (mid.image ≡ o.image)) → (HasCounted stage running → HasCounted to next) → GoesOn next to mid result new → stop_found (Runs next to) ≡ None →
+        IsRaised running loads 0 (locks_taken None lock) next.loads next.stores next.locks → ActsAt step.Going stage o.image (Runs next to) s t → IsStillKept (Runs next to) mid.image stage o.image → (HasCounted stage running → HasCounted to next) → GoesOn next to mid result new → stop_found (Runs next to) ≡ None →
         ((so_far : List Change) → AreMadeAt o.who running stage so_far → AreMadeAt o.who next to so_far) → Tied (running_as mid next to) t → Shortens (Runs running stage) (Runs next to) t → Steps o running stage result new s t
     goes_on loads lock did tried to holds same more carried keeps counted on none made then short =
         record {
@@ -173,12 +171,12 @@ module _ {o : OpenerState} {running : Running} {stage : Stage} {result : Step} {
           falls = going_falls (Runs running stage) next to mid result new t short on;
         }
 
-    -- the call leaves, having done this at its stage
-    pub leaves_with : (loads : ℕ) → Quietly loads None s t → (how : End) (ended : ℕ) → Leaving o mid running next s t → SameCall running next → IsPlain running.call →
-        IsRaised running loads 0 0 next.loads next.stores next.locks → ActsAt result stage o.image new.work s t → Leaves next how ended mid result new → ended ≡ changes_told t.told → stop_found (Runs running stage) ≡ None → MayEnd how →
+    -- the call leaves
+    pub leaves : (loads : ℕ) → Quietly loads None s t → (how : End) (ended : ℕ) → Leaving o mid running next s t → SameCall running next → IsPlain running.call →
+        IsRaised running loads 0 0 next.loads next.stores next.locks → ActsAt step.Going stage o.image (Runs next (Unlock how)) s t → EndActs how stage o.image new.work s t → Leaves next how ended mid result new → ended ≡ changes_told t.told → stop_found (Runs running stage) ≡ None → MayEnd how →
         EndHasReason (Runs running stage) how s t → ((so_far : List Change) → AreMadeAt o.who running stage so_far → AreMadeAt o.who running (Unlock how) so_far) →
         (answers_by_look stage ≡ true → mid.image ≡ o.image) → (HasCounted stage running → EndCounted how stage next) → OnTold t.told (λ k. LeftWith (peek_of stage) mid next how k.start k.past) → Shortens (Runs running stage) (Runs next (Unlock how)) t → Steps o running stage result new s t
-    leaves_with loads did how ended is same plain more acts left count none may reason made keeps counted told short =
+    leaves loads did how ended is same plain more goes answers left count none may reason made keeps counted told short =
         record {
           tied = leaves_tied o mid running next stage s t tied is how ended result new may told left;
           makes = did.makes;
@@ -187,7 +185,7 @@ module _ {o : OpenerState} {running : Running} {stage : Stage} {result : Step} {
           call = leaves_call o.who o.holds running next how ended mid result new same plain may is.who is.holds left;
           cause = leaves_cause (Runs running stage) next how ended mid result new s t none reason left;
           takes = λ kind none some. absurd (no_kind (did.takes kind none some));
-          acts = acts;
+          acts = leaves_acts stage o.image next how ended mid result new s t goes answers left;
           answer = leaves_answer (peek_of stage) mid next t how ended result new count told left;
           place = leaves_place (peek_of stage) mid next t how ended result new count told left;
           image = leaves_image stage mid next o.image t how ended result new keeps told left;
@@ -195,46 +193,31 @@ module _ {o : OpenerState} {running : Running} {stage : Stage} {result : Step} {
           falls = leaves_falls running next stage how ended mid result new t short left;
         }
 
-    pub leaves : (loads : ℕ) → Quietly loads None s t → (how : End) (ended : ℕ) → Leaving o mid running next s t → SameCall running next → IsPlain running.call →
-        IsRaised running loads 0 0 next.loads next.stores next.locks → ActsAt step.Going stage o.image (Runs next (Unlock how)) s t → ((a : Answer) → ActsAt (step.Answered a) stage o.image new.work s t) → Leaves next how ended mid result new → ended ≡ changes_told t.told → stop_found (Runs running stage) ≡ None → MayEnd how →
-        EndHasReason (Runs running stage) how s t → ((so_far : List Change) → AreMadeAt o.who running stage so_far → AreMadeAt o.who running (Unlock how) so_far) →
-        (answers_by_look stage ≡ true → mid.image ≡ o.image) → (HasCounted stage running → EndCounted how stage next) → OnTold t.told (λ k. LeftWith (peek_of stage) mid next how k.start k.past) → Shortens (Runs running stage) (Runs next (Unlock how)) t → Steps o running stage result new s t
-    leaves loads did how ended is same plain more goes answers left count none may reason made keeps counted told short =
-        leaves_with loads did how ended is same plain more (leaves_acts stage o.image next how ended mid result new s t goes answers left) left count none may reason made keeps counted told short
-
     -- a load was made, and the call goes on
     pub loads_on : (to : Stage) → mid.holds ≡ o.holds → Goes (loaded s) s t → next ≡ record running { loads = counted (running.loads + 1) } →
-        ActsAt step.Going stage o.image (Runs next to) s t → (still_looks to ≡ true → (still_looks stage ≡ true) × (mid.image ≡ o.image)) → (HasCounted stage running → HasCounted to next) → GoesOn next to mid result new → stop_found (Runs next to) ≡ None → ((so_far : List Change) → AreMadeAt o.who running stage so_far → AreMadeAt o.who next to so_far) →
+        ActsAt step.Going stage o.image (Runs next to) s t → IsStillKept (Runs next to) mid.image stage o.image → (HasCounted stage running → HasCounted to next) → GoesOn next to mid result new → stop_found (Runs next to) ≡ None → ((so_far : List Change) → AreMadeAt o.who running stage so_far → AreMadeAt o.who next to so_far) →
         Tied (running_as mid next to) t → Shortens (Runs running stage) (Runs next to) t → Steps o running stage result new s t
     loads_on to holds goes more carried keeps counted on none made then short =
         goes_on 1 None (load_quietly goes) (λ kind some. absurd (no_kind some)) to holds (loaded_same running next more).same (load_more running next more) carried keeps counted on none made then short
 
     -- a lock was taken, and the call goes on
     pub locks_on : (kind : LockKind) → IsTried (Runs running stage) kind → (to : Stage) → mid.holds ≡ o.holds → s.holds ≡ None → Tries kind Taken s t → next ≡ record running { taken = Some kind; locks = counted (running.locks + 1) } →
-        ActsAt step.Going stage o.image (Runs next to) s t → (still_looks to ≡ true → (still_looks stage ≡ true) × (mid.image ≡ o.image)) → (HasCounted stage running → HasCounted to next) → GoesOn next to mid result new → stop_found (Runs next to) ≡ None → ((so_far : List Change) → AreMadeAt o.who running stage so_far → AreMadeAt o.who next to so_far) →
+        ActsAt step.Going stage o.image (Runs next to) s t → IsStillKept (Runs next to) mid.image stage o.image → (HasCounted stage running → HasCounted to next) → GoesOn next to mid result new → stop_found (Runs next to) ≡ None → ((so_far : List Change) → AreMadeAt o.who running stage so_far → AreMadeAt o.who next to so_far) →
         Tied (running_as mid next to) t → Shortens (Runs running stage) (Runs next to) t → Steps o running stage result new s t
     locks_on kind tried to holds free tries more carried keeps counted on none made then short =
         goes_on 0 (Some kind) (lock_quietly kind tries.0 free) (λ k is. tried ∙ is) to holds (locked_same running next kind more).0 (lock_more kind running next more) carried keeps counted on none made then short
 
     -- a load was made, and the call leaves
     pub loads_leave : (how : End) (ended : ℕ) → Leaving o mid running next s t → Goes (loaded s) s t → next ≡ record running { loads = counted (running.loads + 1) } → IsPlain running.call →
-        ActsAt step.Going stage o.image (Runs next (Unlock how)) s t → ((a : Answer) → ActsAt (step.Answered a) stage o.image new.work s t) → Leaves next how ended mid result new → ended ≡ changes_told t.told → stop_found (Runs running stage) ≡ None → MayEnd how → EndHasReason (Runs running stage) how s t →
+        ActsAt step.Going stage o.image (Runs next (Unlock how)) s t → EndActs how stage o.image new.work s t → Leaves next how ended mid result new → ended ≡ changes_told t.told → stop_found (Runs running stage) ≡ None → MayEnd how → EndHasReason (Runs running stage) how s t →
         ((so_far : List Change) → AreMadeAt o.who running stage so_far → AreMadeAt o.who running (Unlock how) so_far) →
         (answers_by_look stage ≡ true → mid.image ≡ o.image) → (HasCounted stage running → EndCounted how stage next) → OnTold t.told (λ k. LeftWith (peek_of stage) mid next how k.start k.past) → Shortens (Runs running stage) (Runs next (Unlock how)) t → Steps o running stage result new s t
     loads_leave how ended is goes more plain going answers left count none may reason made keeps counted told short =
         leaves 1 (load_quietly goes) how ended is (loaded_same running next more).same plain (load_more running next more) going answers left count none may reason made keeps counted told short
 
-    -- a load was made, and the call is to stop
-    pub loads_stop : (stop : Stop) (ended : ℕ) → Leaving o mid running next s t → Goes (loaded s) s t → next ≡ record running { loads = counted (running.loads + 1) } → IsPlain running.call →
-        ActsAt step.Going stage o.image (Runs next (Unlock (end.Stop stop))) s t → Leaves next (end.Stop stop) ended mid result new → ended ≡ changes_told t.told → stop_found (Runs running stage) ≡ None → MayEnd (end.Stop stop) → HasReason (Runs running stage) stop s t →
-        ((so_far : List Change) → AreMadeAt o.who running stage so_far → so_far ≡ []) → (answers_by_look stage ≡ true → mid.image ≡ o.image) → OnTold t.told (λ k. LeftWith (peek_of stage) mid next (end.Stop stop) k.start k.past) →
-        Shortens (Runs running stage) (Runs next (Unlock (end.Stop stop))) t → Steps o running stage result new s t
-    loads_stop stop ended is goes more plain going left count none may reason made keeps told short =
-        leaves_with 1 (load_quietly goes) (end.Stop stop) ended is (loaded_same running next more).same plain (load_more running next more) (stops_acts stage o.image next stop ended mid result new s t going left) left count none may reason made keeps (λ has. tt) told short
-
     -- the last load of an image that is kept from now on
     pub loads_ready : (place ended : ℕ) (i : Image) → Leaving o mid running next s t → Goes (loaded s) s t → next ≡ record running { loads = counted (running.loads + 1) } → IsPlain running.call →
-        ActsAt step.Going stage o.image (Runs next Size) s t → ((how : End) → ActsAt step.Going stage o.image (Runs next (Unlock how)) s t) → ((a : Answer) → ActsAt (step.Answered a) stage o.image new.work s t) →
+        ActsAt step.Going stage o.image (Runs next Size) s t → ((how : End) → Replies next i place how → ActsAt step.Going stage o.image (Runs next (Unlock how)) s t) → ((a : Answer) → ActsAt (step.Answered a) stage o.image new.work s t) →
         IsReady next place ended mid result new → ended ≡ changes_told t.told → stop_found (Runs running stage) ≡ None → mid.image ≡ Some i →
         LooksUnder next (lock_by mid.holds next.taken) → ((so_far : List Change) → AreMadeAt o.who running stage so_far → so_far ≡ []) →
         (answers_by_look stage ≡ true → mid.image ≡ o.image) → (HasCounted stage running → 2 ≤ next.loads) → (HasCounted stage running → is_write next.call ≡ false → ReadCounted (answers_by_look stage) next) →

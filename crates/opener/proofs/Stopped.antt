@@ -38,8 +38,9 @@ owes_turned o (Runs running (stage.Store plan)) s t owes away =
     }
 owes_turned o (Runs running stage.PeekChecksum) s t owes away = none_reserved s t (turned_away s) away.after owes
 owes_turned o (Runs running (stage.PeekSequence peek)) s t owes away = none_reserved s t (turned_away s) away.after owes
-owes_turned o (Runs running stage.LockShared) s t owes away = none_reserved s t (turned_away s) away.after owes
+owes_turned o (Runs running (stage.LockShared extent)) s t owes away = none_reserved s t (turned_away s) away.after owes
 owes_turned o (Runs running stage.LockExclusive) s t owes away = none_reserved s t (turned_away s) away.after owes
+owes_turned o (Runs running (stage.Continue loading)) s t owes away = none_reserved s t (turned_away s) away.after owes
 owes_turned o (Runs running (stage.Load loading)) s t owes away = none_reserved s t (turned_away s) away.after owes
 owes_turned o (Runs running stage.Size) s t owes away = none_reserved s t (turned_away s) away.after owes
 owes_turned o (Runs running (stage.Reserve plan)) s t owes away = none_reserved s t (turned_away s) away.after owes

@@ -20,7 +20,8 @@ use Rattle.opener.specs.State.{OpenerState}
 use Rattle.opener.specs.Continues.{SameCall}
 use Rattle.opener.specs.Ends.{lock_by}
 use Rattle.opener.specs.Opener.{Tied, running_as}
-use Rattle.opener.specs.Plans.{CanWrite, IsSoundImage, IsSoundStanding, events_in}
+use Rattle.loader.specs.PartialLoads.{IsSoundImage, IsSoundStanding}
+use Rattle.opener.specs.Plans.{CanWrite, events_in}
 use Rattle.opener.specs.Writes.{IsOwn, Follows, IsSoundPlan, IsRowOf, HasStanding, Leads, PlanLeads, HasMadeSoFar, OwesPlan, commits_of, commits_in, first_events, making_of}
 use Rattle.opener.specs.declared.plan.Plan.{Plan}
 use Rattle.opener.specs.declared.plan.Plan.TheVariants.{Append, Rewrite}

@@ -32,8 +32,9 @@ KeepsStored at result new = (stored : List What) → AreStoredAt at stored → A
 nothing_at : (at : Stage) → AreStoredAt at []
 nothing_at stage.PeekChecksum = refl
 nothing_at (stage.PeekSequence peek) = refl
-nothing_at stage.LockShared = refl
+nothing_at (stage.LockShared extent) = refl
 nothing_at stage.LockExclusive = refl
+nothing_at (stage.Continue loading) = refl
 nothing_at (stage.Load loading) = refl
 nothing_at stage.Size = refl
 nothing_at (stage.Reserve plan) = refl

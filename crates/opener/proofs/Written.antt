@@ -27,7 +27,8 @@ use Rattle.opener.specs.State.{OpenerState}
 use Rattle.opener.specs.Ends.{Written}
 use Rattle.opener.specs.Counted.{with_stored}
 use Rattle.opener.specs.Opener.{Tied, Facts, ChangeIs, IsLastPlace, KeepsWords, running_as}
-use Rattle.opener.specs.Plans.{CanWrite, IsSoundImage, events_in}
+use Rattle.loader.specs.PartialLoads.{IsSoundImage}
+use Rattle.opener.specs.Plans.{CanWrite, events_in}
 use Rattle.opener.specs.Steps.{Steps, StoresFirst}
 use Rattle.opener.specs.Writes.{IsRowOf, IsSoundPlan, Leads, PlanLeads, HasMadeSoFar, commits_of, commits_in, first_events, image_after, making_of}
 use Rattle.opener.specs.declared.calls.Step.{Step}

@@ -8,13 +8,15 @@ use Rattle.region_words.specs.declared.event.What.{What}
 use Rattle.region_words.specs.declared.event.What.TheVariants.{Grow}
 use Rattle.loader.specs.FirstWords.{size_in}
 use Rattle.loader.specs.Loads.{loads_of}
+use Rattle.loader.specs.PartialLoads.{loads_made}
 use Rattle.opener.specs.Plans.{events_in}
 use Rattle.opener.specs.Writes.{first_events, making_of}
 use Rattle.opener.specs.declared.calls.Step.{Step}
 use Rattle.opener.specs.declared.calls.Step.TheVariants as step
 use Rattle.opener.specs.declared.plan.Plan.{Plan}
+use Rattle.opener.specs.declared.work.Extent.TheVariants.{Partial, Full}
 use Rattle.opener.specs.declared.work.Stage.{Stage}
-use Rattle.opener.specs.declared.work.Stage.TheVariants.{PeekChecksum, PeekSequence, LockShared, LockExclusive, Load, Size, Reserve, Store, Unlock, Hold, Release}
+use Rattle.opener.specs.declared.work.Stage.TheVariants.{PeekChecksum, PeekSequence, LockShared, LockExclusive, Continue, Load, Size, Reserve, Store, Unlock, Hold, Release}
 use Rattle.opener.specs.declared.work.Work.{Work}
 use Rattle.opener.specs.declared.work.Work.TheVariants.{Idle, Ended, Runs}
 
@@ -34,9 +36,10 @@ size_left plan = (making_of plan).standing.file_size
 abbrev pub size_planned : Plan → ℕ
 size_planned plan = if next_growth plan == 0 then size_left plan else 0
 
--- the size of the data file that a step came to know: by a load, by asking for it, or by its own growth
+-- the size of the data file that a step came to know: by a load, by asking for it, by its own growth, or from the kept image
 abbrev pub size_met : Work → Work → ℕ
 size_met (Runs running (Load before)) (Runs next (Load after)) = size_in after.first
+size_met (Runs running (Continue before)) (Runs next (Continue after)) = after.file_size
 size_met (Runs running Size) (Runs next (Reserve plan)) = size_planned plan
 size_met (Runs running (Store plan)) new = next_growth plan
 size_met _ _ = 0
@@ -48,10 +51,12 @@ stores_left words plan = if nat_lt (4 * words) (next_growth plan) then 1 else ev
 
 -- at most so many steps are left at a stage, within a data file of so many words
 abbrev pub steps_at : ℕ → Stage → ℕ
-steps_at words LockExclusive = 3 * words + 55
-steps_at words PeekChecksum = 3 * words + 54
-steps_at words (PeekSequence peek) = 3 * words + 53
-steps_at words LockShared = 3 * words + 52
+steps_at words LockExclusive = 4 * words + 60
+steps_at words PeekChecksum = 4 * words + 59
+steps_at words (PeekSequence peek) = 4 * words + 58
+steps_at words (LockShared Partial) = 4 * words + 57
+steps_at words (Continue loading) = (words + 4 - loads_made loading) + (3 * words + 52)
+steps_at words (LockShared Full) = 3 * words + 52
 steps_at words (Load loading) = (words + 10 - loads_of loading) + (2 * words + 41)
 steps_at words Size = 2 * words + 40
 steps_at words (Reserve plan) = stores_left words plan + 1

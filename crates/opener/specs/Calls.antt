@@ -67,7 +67,7 @@ kind_of asked = Some Exclusive
 
 -- the kind that a step of a call at this stage tries
 abbrev pub kind_tried : Call → Stage → Option LockKind
-kind_tried asked LockShared = kind_of asked
+kind_tried asked (LockShared extent) = kind_of asked
 kind_tried asked LockExclusive = kind_of asked
 kind_tried asked Hold = kind_of asked
 kind_tried asked _ = None

@@ -20,7 +20,7 @@ use Rattle.loader.specs.Maps.{map_of_image}
 use Rattle.loader.specs.declared.loaded.Image.{Image}
 use Rattle.loader.specs.declared.loaded.Loaded.{Loaded}
 use Rattle.opener.specs.Calls.{is_write}
-use Rattle.opener.specs.Plans.{IsSoundImage}
+use Rattle.loader.specs.PartialLoads.{IsSoundImage}
 use Rattle.opener.specs.declared.calls.Step.{Step}
 use Rattle.opener.specs.declared.calls.Step.TheVariants as step
 use Rattle.opener.specs.declared.calls.Stop.{Stop}
@@ -29,6 +29,7 @@ use Rattle.opener.specs.declared.plan.Plan.TheVariants.{Append}
 use Rattle.opener.specs.declared.work.Running.{Running}
 use Rattle.opener.specs.declared.work.End.{End}
 use Rattle.opener.specs.declared.work.End.TheVariants as end
+use Rattle.opener.specs.declared.work.Extent.TheVariants.{Full}
 use Rattle.opener.specs.declared.work.Stage.{Stage}
 use Rattle.opener.specs.declared.work.Stage.TheVariants as stage
 use Rattle.opener.specs.declared.work.Work.TheVariants.{Idle, Runs}
@@ -92,9 +93,9 @@ pub record IsFresh (l : Load) : Type 0 where
 abbrev pub lock_by : ℕ → Option LockKind → Option LockKind
 lock_by holds taken = if holds == 0 then taken else Some Exclusive
 
--- the region is loaded next, or a shared lock is asked for where nothing is held
+-- the whole region is loaded next, or a shared lock is asked for where nothing is held
 abbrev pub ReadsBy : Option LockKind → Stage → Type 0
-ReadsBy None next = next ≡ stage.LockShared
+ReadsBy None next = next ≡ stage.LockShared Full
 ReadsBy (Some kind) next = (loading : Load) × (next ≡ stage.Load loading) × IsFresh loading
 
 abbrev pub Reads : ℕ → Option LockKind → Stage → Type 0

@@ -1,13 +1,16 @@
 -- What a call has counted at a stage, and which answers need a load of the region or a change.
-use Rattle.std.specs.Prelude.{◌≡◌, ◌≤◌, Bool, true, false, nat_lt, ◌||◌, min, not, ⊤}
+use Rattle.std.specs.Prelude.{◌≡◌, ◌≤◌, ℕ, ◌+◌, ◌-◌, ◌/◌, Option, Some, Bool, true, false, nat_lt, ◌||◌, min, not, ⊤}
 use Rattle.change_log.specs.declared.call.Answer.{Answer}
 use Rattle.loader.specs.Loads.{loads_of}
+use Rattle.loader.specs.PartialLoads.{loads_made}
+use Rattle.loader.specs.declared.loaded.Image.{Image}
 use Rattle.opener.specs.declared.calls.Step.{Step}
 use Rattle.opener.specs.declared.calls.Step.TheVariants as step
 use Rattle.opener.specs.declared.work.End.TheVariants as end
+use Rattle.opener.specs.declared.work.Extent.TheVariants.{Partial, Full}
 use Rattle.opener.specs.declared.work.Running.{Running}
 use Rattle.opener.specs.declared.work.Stage.{Stage}
-use Rattle.opener.specs.declared.work.Stage.TheVariants.{PeekChecksum, PeekSequence, LockShared, LockExclusive, Load, Size, Unlock, Hold, Release}
+use Rattle.opener.specs.declared.work.Stage.TheVariants.{PeekChecksum, PeekSequence, LockShared, LockExclusive, Continue, Load, Size, Unlock, Hold, Release}
 use Rattle.opener.specs.declared.work.Work.{Work}
 use Rattle.opener.specs.declared.work.Work.TheVariants.{Runs}
 
@@ -32,7 +35,9 @@ HasCounted (PeekSequence peek) running = (running.loads ≡ 1) × (running.store
 HasCounted LockExclusive running = CountsNone running
 HasCounted Hold running = CountsNone running
 HasCounted Release running = CountsNone running
-HasCounted LockShared running = ⊤
+HasCounted (LockShared Partial) running = (running.loads ≡ 2) × (running.stores ≡ 0)
+HasCounted (LockShared Full) running = ⊤
+HasCounted (Continue loading) running = running.loads ≡ 2 + loads_made loading
 HasCounted (Load loading) running = min 3 (loads_of loading) ≤ running.loads
 HasCounted Size running = 2 ≤ running.loads
 HasCounted (Unlock (end.Stop why)) running = ⊤
@@ -47,3 +52,14 @@ abbrev pub CountedBy : Step → Stage → Work → Type 0
 CountedBy (step.Answered a) at new = is_fresh a ≡ not (answers_by_look at)
 CountedBy (step.Stopped why) at new = ⊤
 CountedBy _ at new = CountsSoFar new
+
+-- the loads of a call that goes on, or of its answer
+abbrev pub loads_counted : Step → Work → ℕ
+loads_counted (step.Answered a) new = a.loads
+loads_counted result (Runs running at) = running.loads
+loads_counted result _ = 0
+
+-- a call whose partial load gave this image counts, with its two peeks, at most eight loads and one for each four bytes that were appended
+abbrev pub LoadsFew : Option Image → Stage → ℕ → Type 0
+LoadsFew (Some i) (Continue loading) loads = loads ≤ (i.standing.size - loading.kept.size + 3) / 4 + 8
+LoadsFew image at loads = ⊤

@@ -4,6 +4,7 @@ pub mod Counted
 pub mod Calls
 pub mod Plans
 pub mod Ends
+pub mod Extents
 pub mod Begins
 pub mod Writes
 pub mod Adds

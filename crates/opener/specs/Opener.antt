@@ -33,7 +33,9 @@ use Rattle.loader.specs.declared.loaded.Image.{Image}
 use Rattle.opener.specs.Calls.{IsPlain, IsTried, holds_after, is_write}
 use Rattle.opener.specs.Continues.{SameCall}
 use Rattle.opener.specs.Ends.{OnImage, lock_by}
-use Rattle.opener.specs.Plans.{CanWrite, IsPlanOf, IsSoundImage, events_in, refusal_of}
+use Rattle.opener.specs.Extents.{CanBegin}
+use Rattle.loader.specs.PartialLoads.{HasLoadedPart, IsGoing, IsSoundImage, kept_image}
+use Rattle.opener.specs.Plans.{CanWrite, IsPlanOf, events_in, refusal_of}
 use Rattle.opener.specs.declared.plan.Plan.{Plan}
 use Rattle.opener.specs.State.{OpenerState}
 use Rattle.opener.specs.Writes.{CanReserve, IsSoundPlan, PlanLeads, PlanStarts, HasMadeSoFar, OwesPlan, commits_in}
@@ -45,7 +47,7 @@ use Rattle.opener.specs.declared.work.Running.{Running}
 use Rattle.opener.specs.declared.work.End.{End}
 use Rattle.opener.specs.declared.work.End.TheVariants as end
 use Rattle.opener.specs.declared.work.Stage.{Stage}
-use Rattle.opener.specs.declared.work.Stage.TheVariants.{PeekChecksum, PeekSequence, LockShared, LockExclusive, Load, Size, Reserve, Store, Unlock, Hold, Release}
+use Rattle.opener.specs.declared.work.Stage.TheVariants.{PeekChecksum, PeekSequence, LockShared, LockExclusive, Continue, Load, Size, Reserve, Store, Unlock, Hold, Release}
 use Rattle.opener.specs.declared.work.Work.{Work}
 use Rattle.opener.specs.declared.work.Work.TheVariants.{Idle, Ended, Runs}
 
@@ -80,7 +82,7 @@ MayEnd (end.Stop why) = IsSeen why
 
 -- a call comes to a stage only so
 abbrev pub Suits : Call → Stage → Type 0
-Suits asked LockShared = IsPlain asked × (is_write asked ≡ false)
+Suits asked (LockShared extent) = IsPlain asked × (is_write asked ≡ false)
 Suits asked LockExclusive = CanWrite asked
 Suits asked Size = CanWrite asked
 Suits asked (Reserve plan) = CanWrite asked
@@ -101,8 +103,11 @@ LooksFree running = is_write running.call ≡ false → running.taken ≡ None
 abbrev pub IsAtStage : OpenerState → Running → Stage → Type 0
 IsAtStage o running PeekChecksum = (o.image ≢ None) × LooksUnder running (lock_by o.holds running.taken) × LooksFree running
 IsAtStage o running (PeekSequence peek) = (o.image ≢ None) × LooksUnder running (lock_by o.holds running.taken) × LooksFree running
-IsAtStage o running LockShared = (o.holds ≡ 0) × (running.taken ≡ None)
+IsAtStage o running (LockShared extent) = (o.holds ≡ 0) × (running.taken ≡ None) × CanBegin extent o.image
 IsAtStage o running LockExclusive = (o.holds ≡ 0) × (running.taken ≡ None)
+IsAtStage o running (Continue loading) =
+    IsGoing loading × (lock_by o.holds running.taken ≢ None) × LooksUnder running (lock_by o.holds running.taken)
+    × IsSoundImage (kept_image loading.map loading) × (o.image ≡ None)
 IsAtStage o running (Load loading) =
     (is_done loading ≡ false) × (lock_by o.holds running.taken ≢ None) × LooksUnder running (lock_by o.holds running.taken)
 IsAtStage o running Size = (o.image ≢ None) × (lock_by o.holds running.taken ≡ Some Exclusive)
@@ -214,6 +219,7 @@ PlanIs who running plan start past = IsAccepted start → Apart start past → I
 abbrev pub StageIs : OpenerState → Running → Stage → Region → List Event → Type 0
 StageIs o running (PeekSequence peek) start past =
     WasPeeked o.image peek running.begun start past × (lock_by o.holds running.taken ≡ Some Exclusive → peek.checksum ≡ checksum_at start past)
+StageIs o running (Continue loading) start past = HasLoadedPart loading (region_after start past) × IsImage (kept_image loading.map loading) start past
 StageIs o running (Load loading) start past = HasLoaded loading (region_after start past)
 StageIs o running Size start past = OnImage o.image (λ i. IsAccepted start → Apart start past → IsShown i start past)
 StageIs o running (Reserve plan) start past = PlanStarts o.who running plan start past × PlanLeads plan start past × PlanIs o.who running plan start past

@@ -1,12 +1,11 @@
 -- What a write is to store where an image stands, and why it isn't made.
-use Rattle.std.specs.Prelude.{◌≡◌, ◌⊎◌, ℕ, ◌+◌, ◌^◌, ◌<◌, ◌≤◌, ◌≢◌, Bool, true, false, List, Result, Ok, Err, Option, Some, None, length, not, is_some, nat_lt, nat_le, ◌==◌, ◌&&◌, if◌then◌else◌, ⊤}
+use Rattle.std.specs.Prelude.{◌≡◌, ◌⊎◌, ℕ, ◌+◌, ◌^◌, ◌<◌, ◌≤◌, Bool, true, false, List, Result, Ok, Err, Option, Some, None, length, not, is_some, nat_lt, nat_le, ◌==◌, ◌&&◌, if◌then◌else◌, ⊤}
 use Rattle.std.specs.FinMap as fin
 use Rattle.expiring_map.specs.Map.{Map}
 use Rattle.expiring_map.specs.Live.{live_part}
 use Rattle.kv_pairs.specs.Mapped.{packed_size}
-use Rattle.kv_pairs.specs.Fits.{FitsIn}
 use Rattle.kv_pairs.specs.declared.packed.TheConstants.{LONGEST_FIELD}
-use Rattle.kv_pairs.specs.Growth.{IsFileSize, rewrite_size}
+use Rattle.kv_pairs.specs.Growth.{rewrite_size}
 use Rattle.change_log.specs.Acts.{act_of, applied}
 use Rattle.change_log.specs.declared.call.Call.{Call}
 use Rattle.change_log.specs.declared.call.Call.TheVariants as call
@@ -32,17 +31,6 @@ CanWrite (call.Put key value seconds) = IsKey key × (0 < length value) × (leng
 CanWrite (call.Remove key) = IsKey key
 CanWrite call.Clear = ⊤
 CanWrite _ = ⊥
-
--- an image lies in its file, and has a version where it isn't empty
-pub record IsSoundStanding (s : Standing) : Type 0 where
-  pub file : IsFileSize s.file_size
-  pub within : 4 + s.size ≤ s.file_size
-  pub firm : 0 < s.size → s.version ≢ 0
-
--- and its map can be packed again, to as many bytes and the four that a payload begins with
-pub record IsSoundImage (i : Image) : Type 0 where
-  pub standing : IsSoundStanding i.standing
-  pub map : FitsIn i.standing.flag (map_of_image i) (i.standing.size + 4)
 
 -- the second at which a pair expires that is put now, or why it isn't put
 abbrev pub expiry_of : Bool → ℕ → ℕ → Result ℕ Stop

@@ -1,29 +1,34 @@
 -- What a step of a call comes to.
-use Rattle.std.specs.Prelude.{◌≡◌, ℕ, ◌+◌, Bool, true, false, not, List, Option, Some, None, ⊤}
+use Rattle.std.specs.Prelude.{◌≡◌, ℕ, ◌+◌, Bool, true, false, List, Option, Some, None, ⊤}
 use Rattle.change_log.specs.declared.call.Answer.{Answer}
 use Rattle.lock_rules.specs.declared.table.LockKind.{LockKind}
 use Rattle.region_words.specs.Region.{IsAccepted}
-use Rattle.region_words.specs.Past.{region_after}
 use Rattle.region_words.specs.Images.{sequence_at}
+use Rattle.region_words.specs.Past.{region_after}
 use Rattle.region_words.specs.Making.{MakesFirst}
 use Rattle.region_words.specs.Share.{ShareState, Goes, reserving}
 use Rattle.region_words.specs.Told.{OnTold}
 use Rattle.region_words.specs.declared.event.What.{What}
 use Rattle.region_words.specs.declared.stops.Peek.{Peek}
 use Rattle.loader.specs.Loads.{Load, loads_of}
+use Rattle.loader.specs.PartialLoads.{GoesOnIn, PartialLoad, kept_image}
 use Rattle.loader.specs.declared.loaded.Image.{Image}
 use Rattle.opener.specs.State.{OpenerState}
 use Rattle.opener.specs.Adds.{Adds}
 use Rattle.opener.specs.Bound.{Falls}
 use Rattle.opener.specs.Calls.{IsTried, is_write}
-use Rattle.opener.specs.Ends.{is_current}
+use Rattle.opener.specs.Extents.{load_after}
 use Rattle.opener.specs.Fresh.{CountedBy, HasCounted, answers_by_look}
 use Rattle.opener.specs.Opener.{Tied, MakesOne, KeepsCall, KeepsWords, HasCause, OnAnswer, IsAnswer, IsLastPlace, stop_found}
 use Rattle.opener.specs.Plans.{events_in, room_in}
 use Rattle.opener.specs.Writes.{first_events}
 use Rattle.opener.specs.declared.calls.Step.{Step}
 use Rattle.opener.specs.declared.calls.Step.TheVariants as step
+use Rattle.opener.specs.declared.calls.Stop.TheVariants.{Memory}
 use Rattle.opener.specs.declared.plan.Plan.{Plan}
+use Rattle.opener.specs.declared.work.End.TheVariants as end
+use Rattle.opener.specs.declared.work.Extent.{Extent}
+use Rattle.opener.specs.declared.work.Extent.TheVariants.{Partial, Full}
 use Rattle.opener.specs.declared.work.Running.{Running}
 use Rattle.opener.specs.declared.work.Stage.{Stage}
 use Rattle.opener.specs.declared.work.Stage.TheVariants as stage
@@ -49,25 +54,43 @@ ReservesPlan plan _ s t = ⊥
 abbrev pub StoresFirst : Plan → ℕ → ShareState → ShareState → Type 0
 StoresFirst plan left s t = (rest : List What) × MakesFirst (first_events plan) rest s t × (events_in plan ≡ left + 1)
 
--- a load of the region is next, or a lock for it
-abbrev pub loads_next : Work → Bool
-loads_next (Runs running stage.LockShared) = true
-loads_next (Runs running (stage.Load loading)) = true
-loads_next _ = false
+-- the load that is next, or for which a lock is
+abbrev pub next_load : Work → Option Extent
+next_load (Runs running (stage.LockShared extent)) = Some extent
+next_load (Runs running (stage.Continue loading)) = Some Partial
+next_load (Runs running (stage.Load loading)) = Some Full
+next_load _ = None
 
--- both peeks gave the words of the image that is kept, or not
-abbrev pub FindsCurrent : Bool → Peek → Option Image → ShareState → Type 0
-FindsCurrent found peek image t = OnTold t.told (λ h. is_current image peek (sequence_at h.start h.past) ≡ found)
+-- this is the load that follows the two peeks, where one does
+abbrev pub FindsLoad : Option Extent → Peek → Option Image → ShareState → Type 0
+FindsLoad extent peek image t = OnTold t.told (λ h. load_after image peek (sequence_at h.start h.past) ≡ extent)
 
 -- the tenth load of a region found its record accepted
 abbrev pub FindsAccepted : Load → ShareState → Type 0
 FindsAccepted loading t = loads_of loading ≡ 9 → OnTold t.told (λ h. IsAccepted (region_after h.start h.past))
 
--- What a step that goes on, or is answered, did at its stage: the region is loaded just where a look found other words, and loaded on
--- only with an accepted record, the share is asked for exactly what a plan takes, and its events are made one by one.
+-- the kept image of a partial load goes on in the region, or it doesn't
+abbrev pub LoadHolds : PartialLoad → ShareState → Type 0
+LoadHolds p t = OnTold t.told (λ h. GoesOnIn p.kept (region_after h.start h.past))
+
+abbrev pub LoadFails : PartialLoad → ShareState → Type 0
+LoadFails p t = OnTold t.told (λ h. GoesOnIn p.kept (region_after h.start h.past) → ⊥)
+
+-- a step of a partial load goes on with it; a full one follows where it doesn't hold, and else the call, unless memory was refused
+abbrev pub ContinuesTo : PartialLoad → Work → ShareState → Type 0
+ContinuesTo p (Runs running (stage.Continue next)) t = ⊤
+ContinuesTo p (Runs running (stage.Load loading)) t = LoadFails p t
+ContinuesTo p (Runs running (stage.Unlock (end.Stop why))) t = why ≡ Memory
+ContinuesTo p new t = LoadHolds p t
+
+-- What a step that goes on, or is answered, did at its stage: just the load is made for which the look asks, a partial load holds or
+-- doesn't by what the region holds, a full one goes on only with an accepted record, the share is asked for exactly what a plan takes, and its events are made one by one.
 abbrev pub ActsAt : Step → Stage → Option Image → Work → ShareState → ShareState → Type 0
-ActsAt step.Going (stage.PeekSequence peek) image new s t = FindsCurrent (not (loads_next new)) peek image t
-ActsAt (step.Answered a) (stage.PeekSequence peek) image new s t = FindsCurrent true peek image t
+ActsAt step.Going (stage.PeekSequence peek) image new s t = FindsLoad (next_load new) peek image t
+ActsAt (step.Answered a) (stage.PeekSequence peek) image new s t = FindsLoad None peek image t
+ActsAt step.Going (stage.LockShared extent) image new s t = next_load new ≡ Some extent
+ActsAt step.Going (stage.Continue loading) image new s t = ContinuesTo loading new t
+ActsAt (step.Answered a) (stage.Continue loading) image new s t = LoadHolds loading t
 ActsAt step.Going (stage.Load loading) image new s t = stop_found new ≡ None → FindsAccepted loading t
 ActsAt (step.Answered a) (stage.Load loading) image new s t = FindsAccepted loading t
 ActsAt step.Going (stage.Reserve plan) image new s t = ReservesPlan plan new s t
@@ -91,21 +114,28 @@ abbrev pub IsPlaceOf : Option Peek → Answer → Type 0
 IsPlaceOf (Some peek) a = a.place ≡ peek.changes
 IsPlaceOf None a = IsLastPlace (is_write a.call) a.place a.ended
 
--- up to this stage a call has loaded no whole region, and changed nothing
+-- up to this stage a call has changed nothing, and loaded nothing to its end
 abbrev pub still_looks : Stage → Bool
 still_looks stage.PeekChecksum = true
 still_looks (stage.PeekSequence peek) = true
-still_looks stage.LockShared = true
+still_looks (stage.LockShared extent) = true
 still_looks stage.LockExclusive = true
+still_looks (stage.Continue loading) = true
 still_looks (stage.Load loading) = true
 still_looks stage.Hold = true
 still_looks stage.Release = true
 still_looks _ = false
 
--- a call that still looks has kept the image so far
-abbrev pub IsStillKept : Stage → Option Image → Work → Option Image → Type 0
-IsStillKept at old (Runs running next) new = still_looks next ≡ true → (still_looks at ≡ true) × (new ≡ old)
-IsStillKept at old _ new = ⊤
+-- the image that is kept at a stage: a partial load has it
+abbrev pub kept_at : Stage → Option Image → Option Image
+kept_at (stage.Continue loading) image = Some (kept_image loading.map loading)
+kept_at at image = image
+
+-- a call that still looks has kept the image so far, but for one that a partial load gave up
+abbrev pub IsStillKept : Work → Option Image → Stage → Option Image → Type 0
+IsStillKept (Runs running (stage.Load next)) new (stage.Continue loading) old = new ≡ None
+IsStillKept (Runs running next) new at old = still_looks next ≡ true → (still_looks at ≡ true) × (kept_at next new ≡ kept_at at old)
+IsStillKept _ new at old = ⊤
 
 -- the image is kept as it was, or is that of the region
 abbrev pub IsKeptBy : Bool → Bool → Option Image → Option Image → ShareState → Type 0
@@ -114,7 +144,7 @@ IsKeptBy false write old new t = OnTold t.told (λ h. KeepsWords write new h.sta
 
 -- the image that a step leaves: none after a stop, that of the region after an answer with a load or a change, and else the old one
 abbrev pub KeepsImage : Step → Stage → Option Image → OpenerState → ShareState → Type 0
-KeepsImage step.Going at old new t = IsStillKept at old new.work new.image
+KeepsImage step.Going at old new t = IsStillKept new.work new.image at old
 KeepsImage (step.Answered a) at old new t = IsKeptBy (answers_by_look at) (is_write a.call) old new.image t
 KeepsImage (step.Stopped why) at old new t = new.image ≡ None
 KeepsImage _ at old new t = new.image ≡ old

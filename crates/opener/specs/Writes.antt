@@ -19,7 +19,8 @@ use Rattle.region_words.specs.declared.event.Event.{Event}
 use Rattle.region_words.specs.declared.event.What.{What}
 use Rattle.loader.specs.declared.loaded.Image.{Image}
 use Rattle.appender.specs.Appends.{CanAppend, appending}
-use Rattle.opener.specs.Plans.{IsSoundImage, IsSoundStanding, events_in, room_in}
+use Rattle.loader.specs.PartialLoads.{IsSoundImage, IsSoundStanding}
+use Rattle.opener.specs.Plans.{events_in, room_in}
 use Rattle.opener.specs.declared.plan.Plan.{Plan}
 use Rattle.opener.specs.declared.plan.Plan.TheVariants.{Append, Rewrite}
 use Rattle.opener.specs.declared.work.Running.{Running}

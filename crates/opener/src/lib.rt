@@ -2,6 +2,7 @@
 #![tactic(auto)]
 
 mod calls;
+mod extents;
 mod laws;
 mod opener;
 mod plan;

@@ -9,7 +9,7 @@ ghost use Rattle.opener.specs.Opener.{Tied, running_as, HasCause, IsAnswer, Keep
 ghost use Rattle.opener.specs.Bound.{Falls, steps_left};
 ghost use Rattle.opener.specs.Settles.{BeginsSettled, Settles};
 ghost use Rattle.opener.specs.Quiet.{ShowsQuietly};
-ghost use Rattle.opener.specs.Fresh.{CountedBy, CountsSoFar};
+ghost use Rattle.opener.specs.Fresh.{CountedBy, CountsSoFar, HasCounted, LoadsFew, loads_counted};
 ghost use Rattle.opener.specs.Refused.{StopsWhereRefused};
 ghost use Rattle.opener.specs.Steps.{ActsAt, IsPlaceOf, KeepsImage, OnRunning, Steps, TakesTried, peek_of};
 
@@ -143,6 +143,7 @@ impl Opener {
         ensures place { OnRunning self.old.work (λ stage. OnAnswer result (λ a. OnTold (S.state share.new).told (λ h. IsPlaceOf (peek_of stage) a))) }
         ensures image { OnRunning self.old.work (λ stage. KeepsImage result stage self.old.image self.new (S.state share.new)) }
         ensures counts { CountsSoFar self.old.work → OnRunning self.old.work (λ stage. CountedBy result stage self.new.work) }
+        ensures loads { CountsSoFar self.old.work → OnRunning self.old.work (λ stage. LoadsFew self.new.image stage (loads_counted result self.new.work)) }
         ensures falls { Falls self.old.work result self.new.work (S.state share.new) }
         ensures settles { Settles self.old result self.new (S.state share.old) (S.state share.new) }
         ensures quiet { ShowsQuietly self.new.who self.new.work (S.state share.new) }
@@ -179,13 +180,15 @@ impl Opener {
 
     fn go<S: Share>(&mut self, share: &mut S, running: Running, stage: Stage) -> Step
         requires { Tied (running_as self.old running stage) (S.state share.old) }
-        ensures { Steps self.old running stage result self.new (S.state share.old) (S.state share.new) }
+        ensures steps { Steps self.old running stage result self.new (S.state share.old) (S.state share.new) }
+        ensures loads { HasCounted stage running → LoadsFew self.new.image stage (loads_counted result self.new.work) }
     {
         match stage {
             Stage::PeekChecksum => self.peek_checksum(share, running),
             Stage::PeekSequence(peek) => self.peek_sequence(share, running, peek),
-            Stage::LockShared => self.lock_shared(share, running),
+            Stage::LockShared(extent) => self.lock_shared(share, running, extent),
             Stage::LockExclusive => self.lock_exclusive(share, running),
+            Stage::Continue(loading) => self.go_on(share, running, loading),
             Stage::Load(loading) => self.load(share, running, loading),
             Stage::Size => self.size(share, running),
             Stage::Reserve(plan) => self.reserve(share, running, plan),

@@ -4,7 +4,8 @@ ghost use Rattle.change_log.specs.Acts.{applied};
 ghost use Rattle.region_words.specs.Rows.{item_of, IsAppendable};
 ghost use Rattle.appender.specs.Appends.{CanAppend, appending};
 ghost use Rattle.opener.specs.Counted.{counted};
-ghost use Rattle.opener.specs.Plans.{CanWrite, IsSoundImage, IsSoundStanding, IsPlanOf, IsItemPlan, IsRoomPlan, IsClearPlan, IsNotPlanned, IsNoItemPlan, IsNoRoomPlan, IsNoClearPlan, expiry_of, fits_behind, events_in, room_in, stop_of};
+ghost use Rattle.loader.specs.PartialLoads.{IsSoundImage, IsSoundStanding};
+ghost use Rattle.opener.specs.Plans.{CanWrite, IsPlanOf, IsItemPlan, IsRoomPlan, IsClearPlan, IsNotPlanned, IsNoItemPlan, IsNoRoomPlan, IsNoClearPlan, expiry_of, fits_behind, events_in, room_in, stop_of};
 ghost use Rattle.opener.specs.declared.calls.Stop.TheVariants as why;
 
 use crate::calls::Stop;

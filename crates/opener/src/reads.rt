@@ -8,7 +8,7 @@ ghost use Rattle.opener.specs.Steps.{Steps};
 use crate::calls::{Step, Stop};
 use crate::opener::Opener;
 use crate::reply::reply_in;
-use crate::work::{End, Running, Stage, Work};
+use crate::work::{End, Extent, Running, Stage, Work};
 use change_log::{Answer, Call, Reply};
 use loader::{LoadStop, Loaded, Loading, Went};
 use lock_rules::{LockKind, Tried};
@@ -38,28 +38,27 @@ impl Opener {
         ensures { Steps self.old running (Stage.PeekSequence peek) result self.new (S.state share.old) (S.state share.new) }
     {
         match share.peek_sequence() {
-            Ok(sequence) => {
-                if self.is_current(peek, sequence) {
-                    return self.ready(running.with_load(), peek.changes, share.changes());
-                }
-                let stage = self.reading(running.taken);
-                self.going(running.with_load(), stage)
-            }
+            Ok(sequence) => match self.load_after(peek, sequence) {
+                None => self.ready(running.with_load(), peek.changes, share.changes()),
+                Some(extent) => self.load_next(running.with_load(), extent),
+            },
             Err(stop) => self.stopped(stop, running, Stage::PeekSequence(peek)),
         }
     }
 
-    pub(crate) fn lock_shared<S: Share>(&mut self, share: &mut S, running: Running) -> Step
-        requires { Tied (running_as self.old running Stage.LockShared) (S.state share.old) }
-        ensures { Steps self.old running Stage.LockShared result self.new (S.state share.old) (S.state share.new) }
+    pub(crate) fn lock_shared<S: Share>(
+        &mut self,
+        share: &mut S,
+        running: Running,
+        extent: Extent,
+    ) -> Step
+        requires { Tied (running_as self.old running (Stage.LockShared extent)) (S.state share.old) }
+        ensures { Steps self.old running (Stage.LockShared extent) result self.new (S.state share.old) (S.state share.new) }
     {
         match share.try_lock(LockKind::Shared) {
-            Ok(Tried::Taken) => {
-                let loading = Loading::full(self.alloc);
-                self.going(running.with_lock(LockKind::Shared), Stage::Load(loading))
-            }
-            Ok(Tried::Busy(holder)) => self.blocked(running, Stage::LockShared, holder),
-            Err(stop) => self.stopped(stop, running, Stage::LockShared),
+            Ok(Tried::Taken) => self.begin_load(running.with_lock(LockKind::Shared), extent),
+            Ok(Tried::Busy(holder)) => self.blocked(running, Stage::LockShared(extent), holder),
+            Err(stop) => self.stopped(stop, running, Stage::LockShared(extent)),
         }
     }
 
@@ -237,14 +236,14 @@ impl Opener {
         }
     }
 
-    // The stage that loads the region.
+    // The stage that loads the whole region.
     pub(crate) fn reading(&self, taken: Option<LockKind>) -> Stage
         ensures { Reads self.now.holds taken result }
     {
         if self.holds > 0 || taken.is_some() {
             Stage::Load(Loading::full(self.alloc))
         } else {
-            Stage::LockShared
+            Stage::LockShared(Extent::Full)
         }
     }
 
@@ -284,7 +283,7 @@ impl Opener {
     }
 
     // The image that is kept is that of this place. A write goes on to its stores, and a read is answered.
-    fn ready(&mut self, running: Running, place: u32, ended: u32) -> Step
+    pub(crate) fn ready(&mut self, running: Running, place: u32, ended: u32) -> Step
         requires { self.old.image ≢ None }
         ensures { IsReady running place ended self.old result self.new }
     {

@@ -5,7 +5,7 @@ ghost use Rattle.opener.specs.Counted.{counted, with_stored};
 use crate::calls::Stop;
 use crate::plan::Plan;
 use change_log::{Call, Reply};
-use loader::Loading;
+use loader::{Loading, PartialLoading};
 use lock_rules::LockKind;
 use region_words::{Next, Peek};
 
@@ -65,6 +65,15 @@ pub enum End {
     Stop(Stop),
 }
 
+/// How much of the region a load takes.
+#[derive(Clone, Copy, Debug, PartialEq, Eq)]
+pub enum Extent {
+    /// What was appended to the image that is kept.
+    Partial,
+    /// All that the region shows.
+    Full,
+}
+
 /// What a call does next.
 #[derive(Drop)]
 pub enum Stage {
@@ -72,10 +81,12 @@ pub enum Stage {
     PeekChecksum,
     /// It asks for the sequence, after this peek of the checksum.
     PeekSequence(Peek),
-    /// It asks for a shared lock.
-    LockShared,
+    /// It asks for a shared lock, to load so much.
+    LockShared(Extent),
     /// It asks for an exclusive lock.
     LockExclusive,
+    /// It loads what was appended to the image that it kept, under its lock. The load has that image.
+    Continue(PartialLoading),
     /// It loads the region under its lock.
     Load(Loading),
     /// It asks for the data file's size, as it will change the image that it keeps.

@@ -25,7 +25,7 @@ use Rattle.opener.specs.State.{OpenerState}
 use Rattle.opener.specs.Writes.{OwesPlan, first_events}
 use Rattle.opener.specs.declared.plan.Plan.{Plan}
 use Rattle.opener.specs.declared.work.Running.{Running}
-use Rattle.opener.specs.declared.work.Stage.TheVariants.{PeekChecksum, PeekSequence, LockShared, LockExclusive, Load, Size, Reserve, Store, Unlock, Hold, Release}
+use Rattle.opener.specs.declared.work.Stage.TheVariants.{PeekChecksum, PeekSequence, LockShared, LockExclusive, Continue, Load, Size, Reserve, Store, Unlock, Hold, Release}
 use Rattle.opener.specs.declared.work.Work.{Work}
 use Rattle.opener.specs.declared.work.Work.TheVariants.{Idle, Ended, Runs}
 use Rattle.opener.proofs.Carry.{carry, exclusive_some, still_held}
@@ -126,8 +126,9 @@ module _ (who : ℕ) (l k : Local) (stays : Stays who l k) (agrees : Agrees (sha
   owes_later o Ended owes = stays.reserved ∙ owes
   owes_later o (Runs running PeekChecksum) owes = stays.reserved ∙ owes
   owes_later o (Runs running (PeekSequence peek)) owes = stays.reserved ∙ owes
-  owes_later o (Runs running LockShared) owes = stays.reserved ∙ owes
+  owes_later o (Runs running (LockShared extent)) owes = stays.reserved ∙ owes
   owes_later o (Runs running LockExclusive) owes = stays.reserved ∙ owes
+  owes_later o (Runs running (Continue loading)) owes = stays.reserved ∙ owes
   owes_later o (Runs running (Load loading)) owes = stays.reserved ∙ owes
   owes_later o (Runs running Size) owes = stays.reserved ∙ owes
   owes_later o (Runs running (Reserve plan)) owes = stays.reserved ∙ owes

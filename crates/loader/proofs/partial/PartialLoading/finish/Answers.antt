@@ -1,8 +1,7 @@
-use Rattle.std.proofs.Common.{rules, sym, subst, ap, ◌<◌, ◌^◌}
+use Rattle.std.proofs.Common.{rules, sym, subst, ◌<◌}
 use Rattle.std.specs.Prelude.{All}
 use Rattle.region_words.specs.Past.{region_after}
-use Rattle.region_words.specs.declared.standing.Standing.{Standing}
-use Rattle.loader.specs.PartialLoads.{IsSoundImage, ShowsImage, bytes_from, checksum_in}
+use Rattle.loader.specs.PartialLoads.{IsSoundImage, ShowsImage, bytes_from}
 use Rattle.loader.specs.PartialInside.{IsPartialLoad}
 use Rattle.loader.proofs.PartFinished.{part_sound, part_shows}
 use Rattle.loader.proofs.partial.PartialLoading.finish.Goals as goal
@@ -15,9 +14,7 @@ returns-clause-sound c m kept e =
     let p = c.args.self in
     let good : IsPartialLoad p = subst IsPartialLoad c.self.view_is c.self.invariant in
     let small : All (λ b. b < 256) (bytes_from p) = subst (λ bytes. All (λ b. b < 256) bytes) c.payload.ensures.bytes c.standing.ensures.bytes in
-    let checksum : checksum_in p < 2 ^ 32 =
-    subst (λ n. n < 2 ^ 32) (ap (λ (s : Standing). s.checksum) c.standing.ensures.value) c.standing.ensures.checksum in
-    subst IsSoundImage (sym (returns-clause-image c)) (part_sound p m good small checksum kept e)
+    subst IsSoundImage (sym (returns-clause-image c)) (part_sound p m good small kept e)
 
 pub returns-clause-shows : goal.returns-clause-shows
 returns-clause-shows c m start past run was e has =

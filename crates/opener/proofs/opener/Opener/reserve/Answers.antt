@@ -41,7 +41,7 @@ returns-in-Memory g c =
     let plain = write_plain running.call c.requires.at.1 in
     let stops = subst (λ stop. StopsReserving c.events.result stop s t) c.in-Memory.is c.in-Err.ensures.err in
     leaves c.requires (λ stored none. none) o running 0 (none_quietly (unmoved s) stops.after refl refl refl) (end.Stop why.Memory) c.changes.result
-    (unreserved_leaving o running plan s t c.requires stops plain) (same_call running) plain (none_more running) tt (λ a. tt) c.leave.ensures c.changes.ensures refl tt tt (λ so_far are. are)
+    (unreserved_leaving o running plan s t c.requires stops plain) (same_call running) plain (none_more running) tt tt c.leave.ensures c.changes.ensures refl tt tt (λ so_far are. are)
     (λ looks. absurd cc) (λ has. tt) (unreserved_left o running plan s t c.requires stops why.Memory) (unreserved_shorter running running t plan (end.Stop why.Memory))
 
 pub returns-in-JournalFull : goal.returns-in-JournalFull
@@ -55,7 +55,7 @@ returns-in-JournalFull g c =
     let stops = subst (λ stop. StopsReserving c.events.result stop s t) c.in-JournalFull.is c.in-Err.ensures.err in
     let all = c.events.ensures ∙ counted_is (events_in plan) c.requires.at.2.1.few in
     leaves c.requires (λ stored none. none) o running 0 (none_quietly (unmoved s) stops.0.after refl refl refl) (end.Stop why.JournalFull) c.changes-in-JournalFull.result
-    (unreserved_leaving o running plan s t c.requires stops.0 plain) (same_call running) plain (none_more running) tt (λ a. tt) c.leave-in-JournalFull.ensures c.changes-in-JournalFull.ensures refl tt
+    (unreserved_leaving o running plan s t c.requires stops.0 plain) (same_call running) plain (none_more running) tt tt c.leave-in-JournalFull.ensures c.changes-in-JournalFull.ensures refl tt
     (inr (subst (λ n. StopsReserving n share.JournalFull s t) all stops, c.requires.owes, unreserved_plan o running plan s t c.requires stops.0)) (λ so_far are. are)
     (λ looks. absurd cc) (λ has. tt) (unreserved_left o running plan s t c.requires stops.0 why.JournalFull) (unreserved_shorter running running t plan (end.Stop why.JournalFull))
 

@@ -32,7 +32,7 @@ returns-in-Err-plan g c =
     let no = c.in-Err-plan.ensures.err in
     loads_leave c.requires (λ stored none. none) (record o { image = None }) next (end.Stop stop) c.changes.result
     (refused_leaving o c.args.running next c.in-Ok.size _ _ c.requires same.same same.taken found.ok found.value found.pages stop no) found.ok c.with_load-in-Err-plan.ensures
-    (can_plain c.args.running.call c.requires.at.1) tt (λ a. tt) left c.changes.ensures refl
+    (can_plain c.args.running.call c.requires.at.1) tt tt left c.changes.ensures refl
     (refused_ends o c.args.running next c.in-Ok.size _ _ c.requires same.same same.taken found.ok found.value found.pages stop no)
     (refused_reason o c.args.running next c.in-Ok.size _ _ c.requires same.same same.taken found.ok found.value found.pages stop no c.plan.ensures.words) (λ so_far are. are) (λ looks. absurd cc) (λ has. tt)
     (refused_left o c.args.running next c.in-Ok.size _ _ c.requires same.same same.taken found.ok found.value found.pages stop no) (refused_shorter c.args.running next _ (end.Stop stop))

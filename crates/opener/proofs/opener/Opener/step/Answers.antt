@@ -10,7 +10,7 @@ use Rattle.opener.proofs.opener.Opener.step.Goals as goal
 
 pub returns-in-Runs-clause-settles : goal.returns-in-Runs-clause-settles
 returns-in-Runs-clause-settles g c =
-    let e = c.go.ensures in
+    let e = c.go.ensures.steps in
     step_settles _ c.args.self.now c.in-Runs.running c.in-Runs.stage c.go.result c.go.new.self (g.S.Share.state c.args.share.now) (g.S.Share.state c.go.new.share) c.self.view_is
     (sym c.replace.ensures.value ∙ c.in-Runs.is) c.requires e.tied e.makes e.adds e.call e.answer
 
@@ -20,7 +20,7 @@ returns-in-Runs-clause-refused g c =
     (sym c.replace.ensures.value ∙ c.in-Runs.is) (refused_stops c.go.ensures)
 
 pub returns-in-Runs-clause-quiet : goal.returns-in-Runs-clause-quiet
-returns-in-Runs-clause-quiet g c = shows_quietly c.go.new.self (g.S.Share.state c.go.new.share) c.go.ensures.tied
+returns-in-Runs-clause-quiet g c = shows_quietly c.go.new.self (g.S.Share.state c.go.new.share) c.go.ensures.steps.tied
 
 pub returns-in-Idle-clause-quiet : goal.returns-in-Idle-clause-quiet
 returns-in-Idle-clause-quiet g c =
