@@ -8,3 +8,4 @@ pub mod RecordAnswered
 pub mod GoingOn
 pub mod PartTelling
 pub mod PartFinished
+pub mod WholeGoesOn

@@ -204,3 +204,9 @@ abbrev pub StopsGoingOn : LoadStop → ShareState → ShareState → Type 0
 StopsGoingOn (stop.Share why) s t = Stops why s t
 StopsGoingOn (stop.Record fault) s t = ⊥
 StopsGoingOn stop.Memory s t = Goes (loaded s) s t
+
+-- where the sequence is the kept one, a kept image goes on to each whole image that the region shows
+abbrev pub WholeImagesGoOn : Type 0
+WholeImagesGoOn =
+    (i : Image) (start : Region) (past : List Event) (size : ℕ) → IsTrueRun start past → WasKept i start past →
+    (record_of (region_after start past)).sequence ≡ i.standing.sequence → shown (region_after start past) ≡ Whole size → GoesOnIn i.standing (region_after start past)

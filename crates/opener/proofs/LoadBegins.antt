@@ -19,7 +19,7 @@ use Rattle.opener.specs.Calls.{IsPlain, is_write}
 use Rattle.opener.specs.Continues.{SameCall}
 use Rattle.opener.specs.Counted.{counted}
 use Rattle.opener.specs.Ends.{IsFresh, OnImage, lock_by}
-use Rattle.opener.specs.Extents.{BeginsLoad, CanBegin, LoadsBy, LoadsNext}
+use Rattle.opener.specs.Extents.{BeginsLoad, CanLoad, LoadsBy, LoadsNext}
 use Rattle.opener.specs.Fresh.{HasCounted}
 use Rattle.opener.specs.Opener.{Facts, ImageIs, IsCalm, LooksUnder, Tied, running_as}
 use Rattle.opener.specs.Steps.{FindsLoad, Steps}
@@ -79,7 +79,7 @@ module _ (o : OpenerState) (running next : Running) (stage : Stage) (s t : Share
 -- the load that two peeks ask for begins, or a shared lock is asked for first
 module _ (o : OpenerState) (running : Running) (peek : Peek) (result : Step) (new : OpenerState) (s t : ShareState) (tied : Tied (running_as o running (PeekSequence peek)) s)
     (next : Running) (goes : Goes (loaded s) s t) (more : next ≡ record running { loads = counted (running.loads + 1) }) (extent : Extent) (look : FindsLoad (Some extent) peek o.image t)
-    (can : CanBegin extent o.image) where
+    (can : CanLoad extent o.image) where
   may_load : (kind : LockKind) → lock_by o.holds next.taken ≡ Some kind → MayLoad o running next (PeekSequence peek) s (loaded s)
   may_load kind held =
       let same = loaded_same running next more in
@@ -108,7 +108,7 @@ module _ (o : OpenerState) (running : Running) (peek : Peek) (result : Step) (ne
       same : SameCall running next
       same = (loaded_same running next more).same
 
-      go : (lock : Option LockKind) → lock_by o.holds next.taken ≡ lock → (extent : Extent) → FindsLoad (Some extent) peek o.image t → CanBegin extent o.image → LoadsBy lock extent next o result new →
+      go : (lock : Option LockKind) → lock_by o.holds next.taken ≡ lock → (extent : Extent) → FindsLoad (Some extent) peek o.image t → CanLoad extent o.image → LoadsBy lock extent next o result new →
           Steps o running (PeekSequence peek) result new s t
       go None none extent look can on =
           loads_on tied (λ stored none. none) o next (LockShared extent) refl goes more look (λ looks. (refl, refl)) (asked_counted extent) on refl (λ so_far are. are)

@@ -1,6 +1,6 @@
 -- What an opener knows after its two peeks.
 use Rattle.std.proofs.Common.{◌≡◌, ℕ, arith, Bool, true, false, cond, List, ◌++◌, length, take, refl, sym, ◌∙◌, subst, ap, take_all}
-use Rattle.std.specs.Prelude.{Option, Some, None, ⊤, ◌==◌, ◌&&◌}
+use Rattle.std.specs.Prelude.{Option, Some, None, ⊤, ◌==◌}
 use Rattle.std.proofs.lemmas.List.{take-append-le}
 use Rattle.std.proofs.lemmas.Bool.Decides.{nat_tests}
 use Rattle.crc_words.specs.Crc.{crc}
@@ -27,8 +27,8 @@ use Rattle.loader.specs.declared.loaded.Image.{Image}
 use Rattle.opener.specs.State.{OpenerState}
 use Rattle.opener.specs.Steps.{FindsLoad}
 use Rattle.opener.specs.Calls.{IsPlain, is_write}
-use Rattle.opener.specs.Ends.{OnImage, is_current, lock_by}
-use Rattle.opener.specs.Extents.{CanBegin, load_after}
+use Rattle.opener.specs.Ends.{OnImage, lock_by}
+use Rattle.opener.specs.Extents.{CanLoad, load_after}
 use Rattle.opener.specs.Opener.{Facts, Tied, ImageIs, IsShown, LooksUnder, WasShown, WasPeeked, running_as}
 use Rattle.opener.specs.declared.work.Running.{Running}
 use Rattle.opener.specs.declared.work.Extent.{Extent}
@@ -47,18 +47,6 @@ pub record IsCurrent (image : Option Image) (peek : Peek) (sequence : ℕ) : Typ
   pub kept : image ≡ Some i
   pub checksum : i.standing.checksum ≡ peek.checksum
   pub sequence_is : i.standing.sequence ≡ sequence
-
-pub current_is : (image : Option Image) (peek : Peek) (sequence : ℕ) → is_current image peek sequence ≡ true → IsCurrent image peek sequence
-current_is None peek sequence e = absurd cc
-current_is (Some k) peek sequence e = go (k.standing.checksum == peek.checksum) refl (k.standing.sequence == sequence) refl e
-  where
-    same : (a b : ℕ) → (a == b) ≡ true → a ≡ b
-    same a b t = grind (arith, nat_tests)
-
-    go : (a : Bool) → (k.standing.checksum == peek.checksum) ≡ a → (b : Bool) → (k.standing.sequence == sequence) ≡ b → (a && b) ≡ true → IsCurrent (Some k) peek sequence
-    go true ea true eb e = record { i = k; kept = refl; checksum = same _ _ ea; sequence_is = same _ _ eb }
-    go true ea false eb e = absurd cc
-    go false ea b eb e = absurd cc
 
 -- the checksum that is kept of a whole image is the record's
 checksum_kept : (i : Image) (start : Region) (past : List Event) → IsShown i start past → i.standing.checksum ≡ checksum_at start past
@@ -173,7 +161,7 @@ module _ (o : OpenerState) (running next : Running) (peek : Peek) (s t : ShareSt
       read true e = let both = sym none ∙ (lock ∙ looks_next e) in absurd cc
 
   -- where no lock is held, a shared one is asked for before a load
-  pub asks_shared : (extent : Extent) → CanBegin extent o.image → lock_by o.holds running.taken ≡ None → Tied (running_as o next (LockShared extent)) t
+  pub asks_shared : (extent : Extent) → CanLoad extent o.image → lock_by o.holds running.taken ≡ None → Tied (running_as o next (LockShared extent)) t
   asks_shared extent can none =
       let f = free none in
       tied_after (running_as o running (PeekSequence peek)) (running_as o next (LockShared extent)) s t (loaded s) (λ start past. ⊤) tied goes.after refl tied.ended tied.handled (tied.holds ∙ lock)
@@ -182,7 +170,7 @@ module _ (o : OpenerState) (running next : Running) (peek : Peek) (s t : ShareSt
       (λ start past region lawful mine facts k. record { image = facts.image; rests = λ held calm. facts.rests (lock ∙ held) refl; work = (omega (arith, same.same.begun, facts.work.0), tt) })
 
 -- a load of so much may begin where the words that were peeked ask for it
-pub can_begin : (image : Option Image) (peek : Peek) (sequence : ℕ) (extent : Extent) → load_after image peek sequence ≡ Some extent → OnImage image IsSoundImage → CanBegin extent image
+pub can_begin : (image : Option Image) (peek : Peek) (sequence : ℕ) (extent : Extent) → load_after image peek sequence ≡ Some extent → OnImage image IsSoundImage → CanLoad extent image
 can_begin image peek sequence Full asked sound = tt
 can_begin None peek sequence Partial asked sound = absurd cc
 can_begin (Some i) peek sequence Partial asked sound = sound

@@ -1,6 +1,6 @@
 -- What a quick read knows after its two peeks. It is proved as the read of a call that was begun and looks at the same words.
-use Rattle.std.proofs.Common.{◌≡◌, ◌≢◌, ℕ, arith, Bool, true, false, List, refl, sym, ◌∙◌, subst, ap, inl, inr}
-use Rattle.std.specs.Prelude.{Option, Some, None, ⊤, ◌⊎◌, ◌==◌, ◌&&◌, is_some}
+use Rattle.std.proofs.Common.{◌≡◌, ◌≢◌, ℕ, arith, Bool, true, false, cond, List, refl, sym, ◌∙◌, subst, ap, inl, inr}
+use Rattle.std.specs.Prelude.{Option, Some, None, ⊤, ◌⊎◌, ◌==◌, is_some, not}
 use Rattle.std.proofs.lemmas.Bool.Decides.{nat_tests}
 use Rattle.expiring_map.specs.Live.{value_at}
 use Rattle.change_log.specs.declared.call.Call.TheVariants as call
@@ -14,7 +14,9 @@ use Rattle.region_words.proofs.Telling.{told_map}
 use Rattle.loader.specs.declared.loaded.Image.{Image}
 use Rattle.opener.specs.State.{OpenerState}
 use Rattle.opener.specs.Begins.{IsFirst, begun_at, refusal_at}
-use Rattle.opener.specs.Ends.{is_current}
+use Rattle.opener.specs.Extents.{load_after}
+use Rattle.opener.specs.declared.work.Extent.{Extent}
+use Rattle.opener.specs.declared.work.Extent.TheVariants.{Partial, Full}
 use Rattle.opener.specs.Opener.{Tied, Owes, WorkIs, is_ended, lock_in, running_as}
 use Rattle.opener.specs.Quick.{IsUpToDate, IsAnswered, IsStale, Peeks, WasMap, ended_as}
 use Rattle.opener.specs.declared.work.Running.{Running}
@@ -22,7 +24,7 @@ use Rattle.opener.specs.declared.work.Stage.TheVariants.{PeekChecksum, PeekSeque
 use Rattle.opener.specs.declared.work.Work.TheVariants.{Idle}
 use Rattle.opener.proofs.Begun.{begun_tied}
 use Rattle.opener.proofs.Carry.{none_reserved, tied_after}
-use Rattle.opener.proofs.Noticed.{IsCurrent as HasWords, current_is, current_ready}
+use Rattle.opener.proofs.Noticed.{IsCurrent as HasWords, current_ready, none_asked}
 use Rattle.opener.proofs.Ready.{ReadyWith}
 use Rattle.opener.proofs.Same.{SameLock}
 use Rattle.opener.proofs.Stages.{peeked_tied}
@@ -35,16 +37,20 @@ some_image None some = absurd cc
 some_image (Some i) some = (i, refl)
 
 -- one of the words that were peeked is not the image's
-pub differs : (i : Image) (image : Option Image) (peek : Peek) (sequence : ℕ) → image ≡ Some i → is_current image peek sequence ≡ false →
+pub differs : (i : Image) (image : Option Image) (peek : Peek) (sequence : ℕ) → image ≡ Some i → not (is_some (load_after image peek sequence)) ≡ false →
     (peek.checksum ≢ i.standing.checksum) ⊎ (sequence ≢ i.standing.sequence)
 differs i image peek sequence kept e =
-    go (i.standing.checksum == peek.checksum) refl (i.standing.sequence == sequence) refl (subst (λ z. is_current z peek sequence ≡ false) kept e)
+    go (i.standing.checksum == peek.checksum) refl (i.standing.sequence == sequence) refl (subst (λ z. not (is_some (load_after z peek sequence)) ≡ false) kept e)
   where
-    go : (a : Bool) → (i.standing.checksum == peek.checksum) ≡ a → (b : Bool) → (i.standing.sequence == sequence) ≡ b → (a && b) ≡ false →
+    go : (a : Bool) → (i.standing.checksum == peek.checksum) ≡ a → (b : Bool) → (i.standing.sequence == sequence) ≡ b → not (is_some (cond b (cond a None (Some Partial)) (Some Full))) ≡ false →
         (peek.checksum ≢ i.standing.checksum) ⊎ (sequence ≢ i.standing.sequence)
     go false ea b eb e = inl (λ same. grind (arith, nat_tests))
     go true ea false eb e = inr (λ same. grind (arith, nat_tests))
     go true ea true eb e = absurd cc
+
+no_load : (load : Option Extent) → not (is_some load) ≡ true → load ≡ None
+no_load None e = refl
+no_load (Some extent) e = absurd cc
 
 -- the call as which the read is proved
 abbrev looking : ShareState → Running
@@ -86,9 +92,9 @@ module _ (o : OpenerState) (i : Image) (s m : ShareState) (peek : Peek) (tied : 
         })
 
     -- both words are the image's
-    pub current : is_current o.image peek sequence ≡ true → IsUpToDate o.image s t
+    pub current : not (is_some (load_after o.image peek sequence)) ≡ true → IsUpToDate o.image s t
     current is =
-        let words = current_is o.image peek sequence is in
+        let words = none_asked o.image peek sequence (no_load (load_after o.image peek sequence) is) in
         record {
           i = words.i;
           kept = words.kept;
@@ -109,7 +115,7 @@ module _ (o : OpenerState) (i : Image) (s m : ShareState) (peek : Peek) (tied : 
             subst (λ place. WasMap words.i.map (changes_told s.told) place start past) changes (record { since = e.begun; within = e.placed; map_is = e.found })
 
     -- one is not
-    pub stale : is_current o.image peek sequence ≡ false → IsStale o.image peek.checksum sequence s t
+    pub stale : not (is_some (load_after o.image peek sequence)) ≡ false → IsStale o.image peek.checksum sequence s t
     stale is = record { i = i; kept = kept; peeks = both_peeked; differs = differs i o.image peek sequence kept is }
 
 -- the image's value is the answer

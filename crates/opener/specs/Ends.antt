@@ -1,5 +1,5 @@
 -- What an opener is left with after a stage.
-use Rattle.std.specs.Prelude.{◌≡◌, ℕ, ◌-◌, ◌⊎◌, Bool, true, false, Option, Some, None, max, ◌==◌, ◌&&◌, if◌then◌else◌, ⊤}
+use Rattle.std.specs.Prelude.{◌≡◌, ℕ, ◌-◌, ◌⊎◌, Bool, true, false, Option, Some, None, max, ◌==◌, if◌then◌else◌, ⊤}
 use Rattle.expiring_map.specs.Map.{Map}
 use Rattle.change_log.specs.History.{reply_in}
 use Rattle.change_log.specs.declared.call.Reply.{Reply}
@@ -14,7 +14,6 @@ use Rattle.meta_record.specs.declared.shown.Shown.TheVariants.{Whole}
 use Rattle.region_words.specs.Region.{Region}
 use Rattle.region_words.specs.Making.{Making}
 use Rattle.region_words.specs.declared.standing.Standing.{Standing}
-use Rattle.region_words.specs.declared.stops.Peek.{Peek}
 use Rattle.loader.specs.Loads.{Load, HasLoaded, is_done, loads_of}
 use Rattle.loader.specs.Maps.{map_of_image}
 use Rattle.loader.specs.declared.loaded.Image.{Image}
@@ -110,11 +109,6 @@ Notices (Some i) holds taken next = next ≡ stage.PeekChecksum
 abbrev pub OnImage : Option Image → (Image → Type 0) → Type 0
 OnImage None P = ⊤
 OnImage (Some i) P = P i
-
--- both peeks gave the words of the image that is kept
-abbrev pub is_current : Option Image → Peek → ℕ → Bool
-is_current None peek sequence = false
-is_current (Some i) peek sequence = (i.standing.checksum == peek.checksum) && (i.standing.sequence == sequence)
 
 -- the call ends with the reply of this map, or memory is short
 abbrev pub Replies : Running → Image → ℕ → End → Type 0

@@ -21,10 +21,10 @@ load_after (Some i) peek sequence =
     if i.standing.sequence == sequence then (if i.standing.checksum == peek.checksum then None else Some Partial) else Some Full
 
 -- a partial load goes on from an image
-abbrev pub CanBegin : Extent → Option Image → Type 0
-CanBegin Full image = ⊤
-CanBegin Partial None = ⊥
-CanBegin Partial (Some i) = IsSoundImage i
+abbrev pub CanLoad : Extent → Option Image → Type 0
+CanLoad Full image = ⊤
+CanLoad Partial None = ⊥
+CanLoad Partial (Some i) = IsSoundImage i
 
 -- a load of so much begins: a partial one takes the image that is kept
 abbrev pub BeginsLoad : Extent → Running → OpenerState → Step → OpenerState → Type 0

@@ -33,7 +33,7 @@ use Rattle.loader.specs.declared.loaded.Image.{Image}
 use Rattle.opener.specs.Calls.{IsPlain, IsTried, holds_after, is_write}
 use Rattle.opener.specs.Continues.{SameCall}
 use Rattle.opener.specs.Ends.{OnImage, lock_by}
-use Rattle.opener.specs.Extents.{CanBegin}
+use Rattle.opener.specs.Extents.{CanLoad}
 use Rattle.loader.specs.PartialLoads.{HasLoadedPart, IsGoing, IsSoundImage, kept_image}
 use Rattle.opener.specs.Plans.{CanWrite, IsPlanOf, events_in, refusal_of}
 use Rattle.opener.specs.declared.plan.Plan.{Plan}
@@ -103,7 +103,7 @@ LooksFree running = is_write running.call ≡ false → running.taken ≡ None
 abbrev pub IsAtStage : OpenerState → Running → Stage → Type 0
 IsAtStage o running PeekChecksum = (o.image ≢ None) × LooksUnder running (lock_by o.holds running.taken) × LooksFree running
 IsAtStage o running (PeekSequence peek) = (o.image ≢ None) × LooksUnder running (lock_by o.holds running.taken) × LooksFree running
-IsAtStage o running (LockShared extent) = (o.holds ≡ 0) × (running.taken ≡ None) × CanBegin extent o.image
+IsAtStage o running (LockShared extent) = (o.holds ≡ 0) × (running.taken ≡ None) × CanLoad extent o.image
 IsAtStage o running LockExclusive = (o.holds ≡ 0) × (running.taken ≡ None)
 IsAtStage o running (Continue loading) =
     IsGoing loading × (lock_by o.holds running.taken ≢ None) × LooksUnder running (lock_by o.holds running.taken)

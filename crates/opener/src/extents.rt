@@ -45,7 +45,7 @@ impl Opener {
 // What an opener is left with.
 impl Opener {
     ghost use Rattle.std.specs.Prelude.{◌≡◌};
-    ghost use Rattle.opener.specs.Extents.{BeginsLoad, CanBegin, IsGoneOn, LoadsNext, load_after};
+    ghost use Rattle.opener.specs.Extents.{BeginsLoad, CanLoad, IsGoneOn, LoadsNext, load_after};
 
     // Which load follows these two peeks, where one does.
     pub(crate) fn load_after(&self, peek: Peek, sequence: u32) -> Option<Extent>
@@ -65,7 +65,7 @@ impl Opener {
 
     // So much is loaded next, or a shared lock asked for where nothing is held.
     pub(crate) fn load_next(&mut self, running: Running, extent: Extent) -> Step
-        requires { CanBegin extent self.old.image }
+        requires { CanLoad extent self.old.image }
         ensures { LoadsNext extent running self.old result self.new }
     {
         if self.holds > 0 || running.taken.is_some() {
@@ -77,7 +77,7 @@ impl Opener {
 
     // So much is loaded next. A partial load takes the image that is kept.
     pub(crate) fn begin_load(&mut self, running: Running, extent: Extent) -> Step
-        requires { CanBegin extent self.old.image }
+        requires { CanLoad extent self.old.image }
         ensures { BeginsLoad extent running self.old result self.new }
     {
         match extent {

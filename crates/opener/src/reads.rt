@@ -137,10 +137,11 @@ impl Opener {
 
 // What an opener is left with.
 impl Opener {
-    ghost use Rattle.std.specs.Prelude.{◌≡◌, ◌≢◌, ◌<◌, ◌≤◌, None, Some, false};
+    ghost use Rattle.std.specs.Prelude.{◌≡◌, ◌≢◌, ◌<◌, ◌≤◌, None, Some, false, is_some, not};
     ghost use Rattle.opener.specs.Calls.{AfterStop};
     ghost use Rattle.opener.specs.Quick.{ended_as};
-    ghost use Rattle.opener.specs.Ends.{GoesOn, Waits, IsDone, Finishes, Leaves, Reads, Notices, IsLoaded, IsReady, OnImage, is_current};
+    ghost use Rattle.opener.specs.Ends.{GoesOn, Waits, IsDone, Finishes, Leaves, Reads, Notices, IsLoaded, IsReady, OnImage};
+    ghost use Rattle.opener.specs.Extents.{load_after};
 
     // The call goes on with this stage.
     pub(crate) fn going(&mut self, running: Running, stage: Stage) -> Step
@@ -260,14 +261,9 @@ impl Opener {
 
     // Whether both peeks gave the words of the image that is kept.
     pub(crate) fn is_current(&self, peek: Peek, sequence: u32) -> bool
-        ensures { result ≡ is_current self.now.image peek sequence }
+        ensures { result ≡ not (is_some (load_after self.now.image peek sequence)) }
     {
-        match &self.image {
-            Some(image) => {
-                image.standing.checksum == peek.checksum && image.standing.sequence == sequence
-            }
-            None => false,
-        }
+        self.load_after(peek, sequence).is_none()
     }
 
     // A load is done. A whole image is kept, and without one the call stops.
