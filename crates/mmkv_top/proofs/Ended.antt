@@ -8,6 +8,7 @@ use Rattle.meta_record.specs.declared.shown.Shown.TheVariants.{Whole, Header, La
 use Rattle.meta_record.specs.Records.{checked}
 use Rattle.region_words.specs.Region.{Region, IsAccepted, record_of, header, shown, if_accepted, shown_if_accepted}
 use Rattle.region_words.specs.Past.{changes_of, region_after}
+use Rattle.script_lang.specs.Script.{IsWholeInput}
 use Rattle.script_lang.specs.Texts.{line, changes_text, region_text, run_text}
 use Rattle.mmkv_top.specs.declared.ending.Ending.{Ending}
 use Rattle.mmkv_top.specs.declared.halt.Halt.{Halt}
@@ -16,24 +17,29 @@ use Rattle.mmkv_top.specs.Ending.{ending}
 use Rattle.mmkv_top.specs.State.{PlayState}
 use Rattle.mmkv_top.specs.Parts.{lines_of, past_of, outcomes_of}
 use Rattle.mmkv_top.specs.Played.{Stock}
-use Rattle.mmkv_top.specs.Play.{IsWithin, AreLines, IsPlayed, IsEndedEarly, PlaysInput}
-use Rattle.world.specs.World.{IsSound}
+use Rattle.mmkv_top.specs.Play.{IsWithin, AreLines, IsEndedEarly, PlaysInput}
+use Rattle.world.specs.World.{IsSound, WorldState}
+use Rattle.mmkv_top.specs.Lent.{IsPlayedOn, PlaysOn}
 use Rattle.mmkv_top.specs.Progress.{IsTaken, HaltsAt, IsEndingAt}
 use Rattle.mmkv_top.specs.Due.{IsAmong, IsPlayOf, IsInputPlay, PlayShown, play_statuses}
 use Rattle.mmkv_top.proofs.Judged.{journal_of}
 
 -- all lines were taken
 pub whole_played : (stock left : Stock) (start : Region) (texts : List (List ℕ)) (p : PlayState) (count : ℕ) (e : Ending) → IsSound p.world → IsTaken stock left start texts [] p count →
-    e ≡ ending 0 (p.text ++ (changes_text (changes_of p.world.region.past) ++ region_text (region_after p.world.region.start p.world.region.past))) → IsPlayed stock start texts e
+    e ≡ ending 0 (p.text ++ (changes_text (changes_of p.world.region.past) ++ region_text (region_after p.world.region.start p.world.region.past))) → IsPlayedOn stock start texts p.world e
 whole_played stock left start texts p count e sound taken text =
     let same : taken.taken.front ≡ texts = sym (append-nil taken.taken.front) ∙ sym taken.taken.are in
     let at = taken.at in
     record {
-      parts = taken.parts;
-      within = subst IsWithin same taken.taken.within;
-      lines = subst (λ x. AreLines x (lines_of taken.parts)) same taken.taken.lines;
-      journal = journal_of stock left start taken.parts p sound at;
-      text = text ∙ (λ i. ending 0 (at.text i ++ (changes_text (changes_of (at.past i)) ++ region_text (region_after (at.start_is i) (at.past i)))));
+      played = record {
+        parts = taken.parts;
+        within = subst IsWithin same taken.taken.within;
+        lines = subst (λ x. AreLines x (lines_of taken.parts)) same taken.taken.lines;
+        journal = journal_of stock left start taken.parts p sound at;
+        text = text ∙ (λ i. ending 0 (at.text i ++ (changes_text (changes_of (at.past i)) ++ region_text (region_after (at.start_is i) (at.past i)))));
+      };
+      past = at.past;
+      answers = at.answers;
     }
 
 -- a line ended the play
@@ -61,6 +67,12 @@ input_status stock start left now e (inl h) = elim h.2 [
   | inr r ↦ early_status stock start _ false e r
 ]
 input_status stock start left now e (inr h) = early_status stock start _ true e h.4
+
+-- what a script that is played on a world ends with is a play of the whole input
+pub whole_input : (stock : Stock) (start : Region) (left now : Option (List ℕ)) (script : List ℕ) (w : WorldState) (e : Ending) → IsWholeInput left now script →
+    PlaysOn false stock start script w e → PlaysInput stock start left now e
+whole_input stock start left now script w e whole (inl h) = inl (script, whole, inl h.played)
+whole_input stock start left now script w e whole (inr h) = inl (script, whole, inr h)
 
 -- the play of a region has one of these statuses
 pub play_of_status : (stock : Stock) (left now : Option (List ℕ)) (rose : Type 0) (r : Region) (e : Ending) → IsPlayOf stock left now rose r e → IsAmong play_statuses e.status

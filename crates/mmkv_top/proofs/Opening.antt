@@ -1,58 +1,39 @@
 -- A line that opens an opener.
-use Rattle.std.proofs.Common.{◌≡◌, ◌≢◌, ℕ, zero, suc, ◌+◌, ◌-◌, ◌<◌, ◌≤◌, ◌⊎◌, Bool, true, false, not, ◌||◌, eqb, List, [], ◌∷◌, ◌++◌, length, set, refl, sym, ap, ◌∙◌, inl, inr, arith, subst, append-nil, length-append, replicate}
+use Rattle.std.proofs.Common.{◌≡◌, ◌≢◌, ℕ, ◌+◌, ◌<◌, ◌≤◌, ◌⊎◌, Bool, true, false, not, ◌||◌, eqb, List, [], ◌∷◌, ◌++◌, length, refl, sym, ap, ◌∙◌, inl, inr, arith, subst, length-append}
 use Rattle.std.proofs.lemmas.Bool.Decides.{eqb_tells, nat_tests}
-use Rattle.std.proofs.lemmas.List.{length-set}
-use Rattle.std.proofs.lemmas.List.Elements.{filter-append}
-use Rattle.std.specs.Prelude.{Option, Some, None, IfSome, IsErrAnd, IsTrue, Result, Ok, Err, filter, flat_map, nat_le, slice_get, ◌&&◌, ◌==◌, if◌then◌else◌}
+use Rattle.std.proofs.lemmas.List.Elements.{All-head, filter-append}
+use Rattle.std.specs.Prelude.{All, Option, Some, None, filter, nat_le, slice_get, if◌then◌else◌}
 use Rattle.change_log.specs.declared.call.Answer.{Answer}
-use Rattle.change_log.specs.declared.call.Call.{Call as Asked}
-use Rattle.change_log.specs.Settled.{AreEndedBy}
 use Rattle.handlers.specs.Stock.{Draws}
 use Rattle.lock_rules.specs.declared.table.LockKind.TheVariants.{Exclusive}
 use Rattle.handlers.specs.declared.handler.Strategy.{Strategy}
 use Rattle.handlers.specs.declared.handler.Strategy.TheVariants.{Discard, Recover, Leave}
-use Rattle.opener.specs.Begins.{Begins, call_refusal, refusal_at}
-use Rattle.opener.specs.Opener.{is_ended}
-use Rattle.opener.specs.Bound.{steps_left}
-use Rattle.opener.specs.Calls.{IsBuilt}
 use Rattle.opener.specs.State.{OpenerState}
-use Rattle.opener.specs.declared.calls.Stop.{Stop}
-use Rattle.opener.specs.declared.calls.Stop.TheVariants as stop
 use Rattle.opener.specs.declared.calls.Step.TheVariants as step
-use Rattle.opener.specs.declared.work.Work.{Work}
-use Rattle.opener.specs.declared.work.Work.TheVariants.{Idle, Ended, Runs}
-use Rattle.region_words.specs.Local.{Local, account_of, after_admission, kept_after, no_account, with_account}
-use Rattle.region_words.specs.Past.{changes_of, has_died, locks_after, region_after}
-use Rattle.region_words.specs.Region.{Region, file_size}
+use Rattle.opener.specs.declared.work.Work.TheVariants.{Idle}
+use Rattle.region_words.specs.Local.{Local, account_of, after_admission, kept_after}
+use Rattle.region_words.specs.Past.{has_died, locks_after}
+use Rattle.region_words.specs.Region.{Region}
 use Rattle.region_words.specs.Share.{lock_of, most_events}
 use Rattle.region_words.specs.declared.account.Account.{Account}
 use Rattle.region_words.specs.declared.event.Event.{Event}
 use Rattle.region_words.proofs.Accounts.{other_account}
-use Rattle.script_lang.specs.Texts.{outcome_line}
-use Rattle.script_lang.specs.declared.line.Line.{Line}
-use Rattle.script_lang.specs.declared.line.Line.TheVariants.{Begin, Open}
-use Rattle.world.specs.World.{IsSound, Lives, WorldState}
-use Rattle.world.specs.Moves.{Begun, BeginsCall, IsNotBegun, IsNotOpened, Opens, new_opener}
+use Rattle.script_lang.specs.declared.line.Line.TheVariants.{Open}
+use Rattle.world.specs.World.{IsSound, WorldState}
+use Rattle.world.specs.Moves.{IsNotOpened, Opens, new_opener}
 use Rattle.world.specs.declared.stops.OpenStop.{OpenStop}
 use Rattle.world.specs.declared.stops.OpenStop.TheVariants as opening
-use Rattle.world.specs.declared.stops.WorldStop.{WorldStop}
-use Rattle.world.specs.declared.stops.WorldStop.TheVariants as begin
-use Rattle.world.proofs.Numbered.{pushed_is, set_elsewhere, set_is}
-use Rattle.mmkv_top.specs.Halting.{of_begin, of_opening}
+use Rattle.world.proofs.Fresh.{nothing_made}
+use Rattle.world.proofs.Numbered.{pushed_is}
+use Rattle.mmkv_top.specs.Halting.{of_opening}
 use Rattle.mmkv_top.specs.State.{PlayState, play_state}
-use Rattle.mmkv_top.specs.declared.halt.Halt.{Halt}
 use Rattle.mmkv_top.specs.declared.halt.Halt.TheVariants as halt
-use Rattle.mmkv_top.specs.Parts.{Part, answers_in, asked_of, lives, opened_by, outcomes_of, past_of, running, Running, strategies}
-use Rattle.mmkv_top.specs.Play.{AreAnswered, CanTake}
-use Rattle.mmkv_top.specs.Played.{IsPartOf, IsTooFull, MetNoPlace, Stock, drawn, is_same, places_after, stocked}
-use Rattle.mmkv_top.specs.Progress.{AreEarlier, FollowsWork, FoundIs, FoundSaw, HasHalted, HasStored, IsAt, IsBounded, IsNobody, IsOpenTo, IsOpened, IsUnfull, IsUnopened, StopSaw, Takes, TakesOne}
-use Rattle.mmkv_top.proofs.Answering.{earlier_now, nothing_answered}
-use Rattle.mmkv_top.proofs.InTime.{begin_bounded, in_time}
-use Rattle.mmkv_top.proofs.NoPlaces.{no_place, opener_there, roomy}
-use Rattle.mmkv_top.proofs.Stepping.{follows_alive}
-use Rattle.mmkv_top.proofs.Others.{begin_asked, begin_other, opened_still, unopened_still}
-use Rattle.mmkv_top.proofs.Reasoning.{begin_found, begun_stopless, quiet_reasoned}
-use Rattle.mmkv_top.proofs.Storing.{begun_stored}
+use Rattle.mmkv_top.specs.Parts.{Part, answers_in, outcomes_of, strategies}
+use Rattle.mmkv_top.specs.Played.{IsTooFull, MetNoPlace, Stock, drawn, is_same, stocked}
+use Rattle.mmkv_top.specs.Progress.{AreEarlier, FollowsWork, HasHalted, HasStored, IsAt, IsNobody, IsOpenTo, IsOpened, IsUnopened, TakesOne}
+use Rattle.mmkv_top.proofs.Answering.{nothing_answered}
+use Rattle.mmkv_top.proofs.NoPlaces.{no_place}
+use Rattle.mmkv_top.proofs.Others.{opened_still, unopened_still}
 use Rattle.mmkv_top.proofs.Beginning.{quiet_taken}
 
 -- A handler was drawn from the stock, and one more opener let in.
@@ -234,25 +215,26 @@ module _ (stock left left' : Stock) (start : Region) (parts : List Part) (p : Pl
         nobody v (inr far) = inr (omega (arith, far))
 
 -- A world without openers is a script of no lines.
-new_account : (n who : ℕ) → account_of (replicate n no_account) who ≡ no_account
-new_account zero who = refl
-new_account (suc n) zero = refl
-new_account (suc n) (suc who) = new_account n who
-
-none_in : (l : Local) → l.accounts ≡ replicate 65 no_account → IsOpenTo 0 l
-none_in l fresh w least = ap (λ accounts. (account_of accounts w).admitted) fresh ∙ ap (λ (a : Account). a.admitted) (new_account 65 w) ∙ sym (beyond w least)
+none_in : (w : WorldState) → IsSound w → w.openers ≡ [] → IsOpenTo 0 w.region
+none_in w sound none who least = (sound.unused who (omega (arith, least, ap length none))).outside ∙ sym (beyond who least)
   where
     beyond : (w : ℕ) → 1 ≤ w → nat_le w 0 ≡ false
     beyond w least = grind (arith, nat_tests)
 
-pub no_lines : (stock : Stock) (l : Local) (w : WorldState) → w ≡ record { region = l; openers = []; answers = []; noted = false } → l.past ≡ [] → l.accounts ≡ replicate 65 no_account → l.failing.listed ≡ [] →
-    IsAt stock stock w.region.start [] (play_state w [])
-no_lines stock l w is past accounts listed =
-    subst (λ (v : WorldState). IsAt stock stock v.region.start [] (play_state v [])) (sym is)
-    (record {
+-- nothing was answered there
+nobody_answered : (answers : List Answer) → All (λ a. (1 ≤ a.who) × (a.who ≤ 0)) answers → answers ≡ []
+nobody_answered [] theirs = refl
+nobody_answered (a ∷ answers) theirs = let both = All-head (λ (b : Answer). (1 ≤ b.who) × (b.who ≤ 0)) a answers theirs in absurd (omega (arith, both.0, both.1))
+
+pub none_answered : (w : WorldState) → IsSound w → w.openers ≡ [] → w.answers ≡ []
+none_answered w sound none = nobody_answered w.answers (subst (λ n. All (λ a. (1 ≤ a.who) × (a.who ≤ n)) w.answers) (ap length none) sound.theirs)
+
+pub no_lines : (stock : Stock) (w : WorldState) → IsSound w → w.openers ≡ [] → w.region.failing.listed ≡ [] → IsAt stock stock w.region.start [] (play_state w [])
+no_lines stock w sound none listed =
+    record {
       start_is = refl;
-      past = past;
-      answers = refl;
+      past = nothing_made w.region w.openers w.answers none sound;
+      answers = none_answered w sound none;
       text = refl;
       steady = listed;
       live = tt;
@@ -261,11 +243,11 @@ no_lines stock l w is past accounts listed =
       reasoned = tt;
       roomy = tt;
       histories = tt;
-      answered = nothing_answered l.start;
+      answered = nothing_answered w.region.start;
       within = λ k d lt. absurd (omega (arith, lt));
-      count = refl;
-      open_to = none_in l accounts;
+      count = ap length none;
+      open_to = none_in w sound none;
       drawn = λ s. omega arith;
-      openers = λ i o is. absurd cc;
+      openers = λ i o is. let at : slice_get [] i ≡ Some o = subst (λ l. slice_get l i ≡ Some o) none is in absurd cc;
       unopened = λ who is. record { idle = refl; held = refl };
-    })
+    }

@@ -7,3 +7,4 @@ pub mod Halting
 pub mod State
 pub mod Progress
 pub mod Due
+pub mod Lent

@@ -16,4 +16,5 @@ pub use command::most_openers;
 pub use ending::Status;
 pub use halt::{Halt, Halted};
 pub use limits::{LARGEST_COUNT, LARGEST_LINE};
+pub use play::play_on;
 pub use top::run;

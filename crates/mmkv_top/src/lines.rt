@@ -5,6 +5,7 @@ ghost use Rattle.mmkv_top.specs.Parts.{Part};
 ghost use Rattle.mmkv_top.specs.Played.{Stock, stock_of};
 ghost use Rattle.mmkv_top.specs.Play.{texts_of, without_feed};
 ghost use Rattle.world.specs.World.{IsSound};
+ghost use Rattle.world.specs.Moves.{CameFrom};
 ghost use Rattle.mmkv_top.specs.State.{play_state};
 ghost use Rattle.mmkv_top.specs.Progress.{IsAt, IsTaken, HaltsAt, TakesOrHalts};
 
@@ -28,6 +29,7 @@ pub(crate) fn take_lines(
     requires sound { IsSound world.old }
     requires at { IsAt (stock_of handlers.old) (stock_of handlers.old) world.old.region.start [] (play_state world.old text.old.items) }
     ensures sound { IsSound world.new }
+    ensures moved { CameFrom world.old world.new }
     ensures taken { IfOk result (IsTaken (stock_of handlers.old) (stock_of handlers.new) world.old.region.start (texts_of script.now) [] (play_state world.new text.new.items)) }
     ensures halted { IfErr result (λ h. HaltsAt (stock_of handlers.old) world.old.region.start (texts_of script.now) false h.number h.why) }
 {
@@ -66,6 +68,7 @@ fn take_text(
 ) -> Result<(), Halt>
     requires sound { IsSound world.old }
     ensures sound { IsSound world.new }
+    ensures moved { CameFrom world.old world.new }
     ensures taken { (stock : Stock) (start : Region) (parts : List Part) → IsAt stock (stock_of handlers.old) start parts (play_state world.old text.old.items) →
         TakesOrHalts stock (stock_of handlers.new) start parts count line.now (play_state world.new text.new.items) result }
 {

@@ -6,6 +6,7 @@ ghost use Rattle.opener.specs.State.{OpenerState};
 ghost use Rattle.region_words.specs.Region.{Region};
 ghost use Rattle.region_words.specs.declared.event.Event.{Event};
 ghost use Rattle.world.specs.World.{IsLiving, IsSound, Lives};
+ghost use Rattle.world.specs.Moves.{CameFrom};
 ghost use Rattle.mmkv_top.specs.State.{play_state};
 ghost use Rattle.mmkv_top.specs.Parts.{Part, Running};
 ghost use Rattle.mmkv_top.specs.Played.{Stock, reason_said, stock_of};
@@ -31,6 +32,7 @@ pub(crate) fn take(
 ) -> Result<(), Halt>
     requires sound { IsSound world.old }
     ensures sound { IsSound world.new }
+    ensures moved { CameFrom world.old world.new }
     ensures taken { (stock : Stock) (start : Region) (parts : List Part) → IsAt stock (stock_of handlers.old) start parts (play_state world.old text.old.items) →
         Takes stock (stock_of handlers.new) start parts line (play_state world.new text.new.items) result }
 {
@@ -46,6 +48,7 @@ pub(crate) fn take(
 fn open(world: &mut World, handlers: &mut HandlerStock, strategy: Strategy) -> Result<(), Halt>
     requires sound { IsSound world.old }
     ensures sound { IsSound world.new }
+    ensures moved { CameFrom world.old world.new }
     ensures taken { (stock : Stock) (start : Region) (parts : List Part) (text : List ℕ) → IsAt stock (stock_of handlers.old) start parts (play_state world.old text) →
         Takes stock (stock_of handlers.new) start parts (Some (Line.Open strategy)) (play_state world.new text) result }
 {
@@ -65,6 +68,7 @@ fn open(world: &mut World, handlers: &mut HandlerStock, strategy: Strategy) -> R
 fn begin(world: &mut World, who: u32, now: u32, call: Call) -> Result<(), Halt>
     requires sound { IsSound world.old }
     ensures sound { IsSound world.new }
+    ensures moved { CameFrom world.old world.new }
     ensures taken { (stock left : Stock) (start : Region) (parts : List Part) (text : List ℕ) → IsAt stock left start parts (play_state world.old text) →
         Takes stock left start parts (Some (Line.Begin who now call)) (play_state world.new text) result }
 {
@@ -87,6 +91,7 @@ fn step(
 ) -> Result<(), Halt>
     requires sound { IsSound world.old }
     ensures sound { IsSound world.new }
+    ensures moved { CameFrom world.old world.new }
     ensures taken { (stock left : Stock) (start : Region) (parts : List Part) → IsAt stock left start parts (play_state world.old text.old.items) →
         Takes stock left start parts (Some (Line.Step who count)) (play_state world.new text.new.items) result }
 {
@@ -104,6 +109,7 @@ fn step(
 fn steps(world: &mut World, who: u32, count: u32) -> Result<Moved, Halt>
     requires sound { IsSound world.old }
     ensures sound { IsSound world.new }
+    ensures moved { CameFrom world.old world.new }
     ensures placed { IfOk result (IsPlaced (length world.new.answers)) }
     ensures walks { IfOk result (λ last. (o : OpenerState) → Lives world.old.openers who o → (start : Region) (past : List Event) (held : ℕ) (before : Option Running) →
         Stepped who (length world.old.openers) start past held before o.work 0 Step.Going [] o (seat_at who world.old.region) →

@@ -9,12 +9,15 @@ ghost use Rattle.script_lang.specs.Texts.{line, changes_text, region_text};
 ghost use Rattle.mmkv_top.specs.Ending.{IsDueOr, ending};
 ghost use Rattle.mmkv_top.specs.Due.{IsAmong, play_statuses, IsPlay, IsPlayOf, IsInputPlay, IsEndingOf, region_in};
 ghost use Rattle.mmkv_top.specs.Played.{stock_of};
-ghost use Rattle.mmkv_top.specs.Play.{IsPlayed, IsEndedEarly, EndsLines, not_yet, texts_of};
+ghost use Rattle.mmkv_top.specs.Play.{IsEndedEarly, EndsLines, not_yet, texts_of};
 ghost use Rattle.world.specs.World.{IsSound};
+ghost use Rattle.world.specs.Moves.{CameFrom, CountsLoads};
+ghost use Rattle.mmkv_top.specs.Lent.{IsPlayedOn, PlaysOn};
+ghost use Rattle.lock_rules.specs.declared.limits.TheConstants.{MOST_OPENERS};
 ghost use Rattle.mmkv_top.specs.State.{play_state};
 ghost use Rattle.mmkv_top.specs.Progress.{IsAt, IsEndingAt};
 
-use crate::ending::Ending;
+use crate::ending::{Ending, Status};
 use crate::halt::{Halt, Halted};
 use crate::lines::take_lines;
 use crate::refusals::{refused, unbrought};
@@ -28,7 +31,7 @@ use region_words::{
 use script_lang::{ScriptStop, changes_text, read_script, region_text};
 use std::alloc::Global;
 use std::mem;
-use world::World;
+use world::{World, answers_count_loads_that_were_made};
 
 /// Plays a script of openers from the input, at a copy of a store. The store has to show a whole image.
 pub(crate) fn play<D: Shelf, S: Source>(
@@ -126,16 +129,110 @@ fn play_input<S: Source>(
     handlers: &mut HandlerStock,
 ) -> Result<Ending, Memory>
     requires sound { IsSound world.old }
-    requires at { IsAt (stock_of handlers.old) (stock_of handlers.old) world.old.region.start [] (play_state world.old []) }
+    requires unopened { world.old.openers ≡ [] }
+    requires steady { world.old.region.failing.listed ≡ [] }
     ensures due { IfOk result (IsInputPlay (stock_of handlers.old) world.old.region.start (S.left input.old) (S.left input.new)
         (Rose (S.faults input.old) (S.faults input.new))) }
     ensures clean_input { IfOk result (λ e. e.status ≢ 3 → S.faults input.new ≡ S.faults input.old) }
 {
     match read_script(alloc, input) {
-        Ok(script) => play_script(alloc, world, handlers, &script),
-        Err(ScriptStop::TooLong(front)) => play_cut(alloc, world, handlers, front.as_slice()),
+        Ok(script) => play_text(alloc, world, &script, false, handlers),
+        Err(ScriptStop::TooLong(front)) => {
+            play_text(alloc, world, front.as_slice(), true, handlers)
+        }
         Err(ScriptStop::ReadFault) => Ending::of_text(alloc, 3, "read fault\n"),
         Err(ScriptStop::Memory) => Err(Memory),
+    }
+}
+
+fn play_text(
+    alloc: Global,
+    world: &mut World,
+    script: &[u8],
+    cut: bool,
+    handlers: &mut HandlerStock,
+) -> Result<Ending, Memory>
+    requires sound { IsSound world.old }
+    requires unopened { world.old.openers ≡ [] }
+    requires steady { world.old.region.failing.listed ≡ [] }
+    ensures { IfOk result (PlaysOn cut (stock_of handlers.old) world.old.region.start script.now world.new) }
+{
+    let mut text = Vec::new(alloc);
+    let status = play_on(alloc, world, script, cut, handlers, &mut text);
+    if status.0 == 8 {
+        return Err(Memory);
+    }
+    Ok(Ending {
+        status: status.0,
+        text: Bytes::of_vec(text),
+    })
+}
+
+/// Plays a script on a world that is lent. `cut` says that a further byte follows the script, and that its last line isn't whole. The
+/// text that is due is added to `out`; the status is 0, 9, 16 or 17 as in `play`, or 8 where memory was refused.
+pub fn play_on(
+    alloc: Global,
+    world: &mut World,
+    script: &[u8],
+    cut: bool,
+    stock: &mut HandlerStock,
+    out: &mut Vec<u8>,
+) -> Status
+    requires sound { IsSound world.old }
+    requires unopened { world.old.openers ≡ [] }
+    requires steady { world.old.region.failing.listed ≡ [] }
+    ensures sound { IsSound world.new }
+    // What the script ends with.
+    ensures played { result.0 ≢ 8 → (text : List ℕ) × (out.new.items ≡ out.old.items ++ text)
+        × PlaysOn cut (stock_of stock.old) world.old.region.start script.now world.new (ending result.0 text) }
+    ensures memory { result.0 ≡ 8 → out.new.items ≡ out.old.items }
+    // Whatever it ends with.
+    ensures moved { CameFrom world.old world.new }
+    ensures loads { (who : ℕ) → 1 ≤ who → who ≤ MOST_OPENERS → CountsLoads who world.old world.new }
+{
+    answers_count_loads_that_were_made();
+    match play_lines(alloc, world, script, cut, stock) {
+        Ok(ending) => hand_over(ending, out),
+        Err(Memory) => Status(8),
+    }
+}
+
+// Adds the text of an ending to a buffer. An empty one takes it over.
+fn hand_over(ending: Ending, out: &mut Vec<u8>) -> Status
+    requires { ending.status ≢ 8 }
+    ensures added { result.0 ≢ 8 → (result.0 ≡ ending.status) × (out.new.items ≡ out.old.items ++ ending.text) }
+    ensures memory { result.0 ≡ 8 → out.new.items ≡ out.old.items }
+{
+    let Ending { status, text } = ending;
+    if out.is_empty() {
+        mem::drop(mem::replace(out, text.into_vec()));
+        return Status(status);
+    }
+    match out.extend_from_slice(text.as_slice()) {
+        Ok(()) => Status(status),
+        Err(_) => Status(8),
+    }
+}
+
+fn play_lines(
+    alloc: Global,
+    world: &mut World,
+    script: &[u8],
+    cut: bool,
+    handlers: &mut HandlerStock,
+) -> Result<Ending, Memory>
+    requires sound { IsSound world.old }
+    requires unopened { world.old.openers ≡ [] }
+    requires steady { world.old.region.failing.listed ≡ [] }
+    ensures sound { IsSound world.new }
+    ensures moved { CameFrom world.old world.new }
+    ensures played { IfOk result (PlaysOn cut (stock_of handlers.old) world.old.region.start script.now world.new) }
+    ensures statuses { IfOk result (λ e. e.status ≢ 8) }
+{
+    if cut {
+        play_cut(alloc, world, handlers, script)
+    } else {
+        play_script(alloc, world, handlers, script)
     }
 }
 
@@ -147,7 +244,9 @@ fn play_script(
 ) -> Result<Ending, Memory>
     requires sound { IsSound world.old }
     requires at { IsAt (stock_of handlers.old) (stock_of handlers.old) world.old.region.start [] (play_state world.old []) }
-    ensures { IfOk result (λ e. IsPlayed (stock_of handlers.old) world.old.region.start (texts_of script.now) e
+    ensures sound { IsSound world.new }
+    ensures moved { CameFrom world.old world.new }
+    ensures played { IfOk result (λ e. IsPlayedOn (stock_of handlers.old) world.old.region.start (texts_of script.now) world.new e
         ⊎ IsEndedEarly (stock_of handlers.old) world.old.region.start (texts_of script.now) false e) }
 {
     let mut text = Vec::new(alloc);
@@ -166,7 +265,9 @@ fn play_cut(
 ) -> Result<Ending, Memory>
     requires sound { IsSound world.old }
     requires at { IsAt (stock_of handlers.old) (stock_of handlers.old) world.old.region.start [] (play_state world.old []) }
-    ensures { IfOk result (λ e. (size : ℕ) × EndsLines script.now size
+    ensures sound { IsSound world.new }
+    ensures moved { CameFrom world.old world.new }
+    ensures played { IfOk result (λ e. (size : ℕ) × EndsLines script.now size
         × IsEndedEarly (stock_of handlers.old) world.old.region.start (texts_of (take size script.now)) true e) }
 {
     let size = end_of_lines(script);

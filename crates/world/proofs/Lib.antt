@@ -4,3 +4,4 @@ pub mod Stepped
 pub mod Together
 pub mod Turns
 pub mod Fresh
+pub mod Loaded

@@ -26,6 +26,7 @@ use Rattle.opener.specs.declared.calls.Step.{Step}
 use Rattle.opener.specs.declared.calls.Step.TheVariants as step
 use Rattle.opener.specs.declared.calls.Stop.{Stop}
 use Rattle.opener.specs.declared.calls.Stop.TheVariants as stop
+use Rattle.opener.specs.declared.work.Running.{Running}
 use Rattle.opener.specs.declared.work.Work.{Work}
 use Rattle.opener.specs.declared.work.Work.TheVariants.{Idle, Ended, Runs}
 use Rattle.opener.proofs.Settles.{first_settles, none_by_others}
@@ -35,11 +36,11 @@ use Rattle.world.proofs.Numbered.{AnswersOf, fewer_run, none_more, one_fewer_run
 use Rattle.world.proofs.Stays.{Stays, agrees_with, opener_later, stays_by}
 
 -- The work of an opener by its cases.
-at_work : (o next : OpenerState) (came : Step) (work : Work) → o.work ≡ work → KeepsWork o came next → KeepsWork (record o { work = work }) came next
+pub at_work : (o next : OpenerState) (came : Step) (work : Work) → o.work ≡ work → KeepsWork o came next → KeepsWork (record o { work = work }) came next
 at_work o next came work is keeps = subst (λ w. KeepsWork (record o { work = w }) came next) is keeps
 
 -- a step answers for the opener that made it
-answers_for : (o next : OpenerState) (came : Step) (work : Work) → o.work ≡ work → KeepsWork o came next → AnswersOf o.who came
+pub answers_for : (o next : OpenerState) (came : Step) (work : Work) → o.work ≡ work → KeepsWork o came next → AnswersOf o.who came
 answers_for o next came Idle is keeps = subst (AnswersOf o.who) (sym (at_work o next came Idle is keeps).0) tt
 answers_for o next came Ended is keeps = subst (AnswersOf o.who) (sym (at_work o next came Ended is keeps).0) tt
 answers_for o next came (Runs running stage) is keeps = go came (at_work o next came (Runs running stage) is keeps)
@@ -81,6 +82,19 @@ ends_or_stays o next came (Runs running stage) is keeps = go came (at_work o nex
     go (step.Blocked holder) k = not_idle
     go (step.Stopped why) k = not_idle
 
+-- a stop leaves no call that runs
+pub after_stop : (P : Work → Type 0) → P Idle → P Ended → (who holds : ℕ) (running : Running) (next : OpenerState) (why : Stop) → KeepsCall who holds running (step.Stopped why) next → P next.work
+after_stop P idle ended who holds running next stop.Fault k = subst P (sym k.0) ended
+after_stop P idle ended who holds running next stop.Memory k = subst P (sym k.0) idle
+after_stop P idle ended who holds running next stop.JournalFull k = subst P (sym k.0) idle
+after_stop P idle ended who holds running next (stop.NotWhole seen) k = subst P (sym k.0) idle
+after_stop P idle ended who holds running next (stop.Version n) k = subst P (sym k.0) idle
+after_stop P idle ended who holds running next (stop.Flags n) k = subst P (sym k.0) idle
+after_stop P idle ended who holds running next (stop.Full need) k = subst P (sym k.0) idle
+after_stop P idle ended who holds running next stop.SequenceEnd k = subst P (sym k.0) idle
+after_stop P idle ended who holds running next stop.ExpiryOff k = subst P (sym k.0) idle
+after_stop P idle ended who holds running next stop.ExpiryRange k = subst P (sym k.0) idle
+
 -- what a call has counted so far, after a step
 pub counted_on : (o next : OpenerState) (came : Step) (work : Work) → o.work ≡ work → KeepsWork o came next →
     OnRunning o.work (λ at. CountedBy came at next.work) → CountsSoFar next.work
@@ -89,21 +103,9 @@ counted_on o next came Ended is keeps counts = subst (λ (p : OpenerState). Coun
 counted_on o next came (Runs running stage) is keeps counts =
     go came (at_work o next came (Runs running stage) is keeps) (subst (λ w. OnRunning w (λ at. CountedBy came at next.work)) is counts)
   where
-    stopped_counts : (why : Stop) → KeepsCall o.who o.holds running (step.Stopped why) next → CountsSoFar next.work
-    stopped_counts stop.Fault k = subst CountsSoFar (sym k.0) tt
-    stopped_counts stop.Memory k = subst CountsSoFar (sym k.0) tt
-    stopped_counts stop.JournalFull k = subst CountsSoFar (sym k.0) tt
-    stopped_counts (stop.NotWhole seen) k = subst CountsSoFar (sym k.0) tt
-    stopped_counts (stop.Version n) k = subst CountsSoFar (sym k.0) tt
-    stopped_counts (stop.Flags n) k = subst CountsSoFar (sym k.0) tt
-    stopped_counts (stop.Full need) k = subst CountsSoFar (sym k.0) tt
-    stopped_counts stop.SequenceEnd k = subst CountsSoFar (sym k.0) tt
-    stopped_counts stop.ExpiryOff k = subst CountsSoFar (sym k.0) tt
-    stopped_counts stop.ExpiryRange k = subst CountsSoFar (sym k.0) tt
-
     go : (s : Step) → KeepsCall o.who o.holds running s next → CountedBy s stage next.work → CountsSoFar next.work
     go (step.Answered a) k c = subst CountsSoFar (sym k.1) tt
-    go (step.Stopped why) k c = stopped_counts why k
+    go (step.Stopped why) k c = after_stop CountsSoFar tt tt o.who o.holds running next why k
     go step.Idle k c = absurd k
     go step.Going k c = c
     go step.Again k c = c

@@ -15,6 +15,7 @@ use Rattle.region_words.specs.Region.{Region}
 use Rattle.region_words.specs.Share.{ShareState}
 use Rattle.region_words.specs.Told.{History, OnTold}
 use Rattle.region_words.specs.declared.event.Event.{Event}
+use Rattle.region_words.proofs.Beside.{others_loads}
 use Rattle.region_words.proofs.Later.{died_others, lock_others}
 use Rattle.opener.specs.Adds.{AddsTo}
 use Rattle.opener.specs.Begins.{Begins, refusal}
@@ -74,6 +75,10 @@ same_seat : (s t : ShareState) → MakesOne s t → t.who ≡ s.who
 same_seat s t (inl same) = ap (λ (x : ShareState). x.who) same
 same_seat s t (inr (left, after, few)) = after.same.who
 
+same_tag : (s t : ShareState) → MakesOne s t → t.tag ≡ s.tag
+same_tag s t (inl same) = ap (λ (x : ShareState). x.tag) same
+same_tag s t (inr (left, after, few)) = after.same.tag
+
 module _ (l : Local) (turned new : Seated) (openers : List OpenerState) (answers : List Answer) (i : ℕ) (o next : OpenerState) (came : Step) (world : IsWorld l openers answers)
     (at : slice_get openers i ≡ Some o) (is : turned ≡ record { who = i + 1; region = l }) (made : Made o next came (seat_state turned) (seat_state new)) where
   seat_same : new.who ≡ i + 1
@@ -120,11 +125,13 @@ module _ (l : Local) (turned new : Seated) (openers : List OpenerState) (answers
       let e : i + 1 - 1 ≡ i = omega arith in
       record {
         lives = lives_at openers i o at alive;
+        number = (world.each i o at).number;
         openers = ap (λ n. set openers n next) (sym e);
         answers = more_is;
         start = start_same;
         noted = refl;
         makes = numbered.makes;
+        others = λ w least most apart. others_loads l new.region (i + 1) w (same_tag (share_of l (i + 1)) (share_of new.region (i + 1)) numbered.makes) least most apart;
         adds = numbered.adds;
         call = numbered.call;
         cause = numbered.cause;

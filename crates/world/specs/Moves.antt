@@ -1,5 +1,5 @@
 -- What a world's calls do.
-use Rattle.std.specs.Prelude.{◌≡◌, ◌≢◌, ℕ, ◌+◌, ◌-◌, ◌*◌, ◌<◌, ◌≤◌, List, [], ◌∷◌, ◌++◌, length, slice_set, Bool, Some, None, true, ⊤}
+use Rattle.std.specs.Prelude.{◌≡◌, ◌≢◌, ℕ, ◌+◌, ◌-◌, ◌*◌, ◌<◌, ◌≤◌, List, [], ◌∷◌, ◌++◌, ◌^◌, ◌⊎◌, ◌==◌, if◌then◌else◌, length, slice_set, Bool, Some, None, true, ⊤}
 use Rattle.change_log.specs.History.{Legal}
 use Rattle.change_log.specs.declared.call.Answer.{Answer}
 use Rattle.change_log.specs.declared.call.Call.{Call}
@@ -32,6 +32,10 @@ use Rattle.world.specs.declared.stops.WorldStop.TheVariants as stop
 
 abbrev pub world_of : Seated → List OpenerState → List Answer → Bool → WorldState
 world_of s openers answers noted = record { region = s.region; openers = openers; answers = answers; noted = noted }
+
+-- how often an opener has loaded in the region
+abbrev pub loads_of : WorldState → ℕ → ℕ
+loads_of w who = (account_of w.region.accounts who).loads
 
 -- an opener of this number that has made no call
 abbrev pub new_opener : ℕ → OpenerState
@@ -81,11 +85,13 @@ IsNotBegun stop.Memory who asked w = (o : OpenerState) × Lives w.openers who o
 -- An opener made a step, which came to this and left it so. All that an opener's step promises stands, and nobody else moved.
 pub record Steps (who : ℕ) (o next : OpenerState) (came : Step) (old new : WorldState) : Type 0 where
   pub lives : Lives old.openers who o
+  pub number : o.who ≡ who
   pub openers : new.openers ≡ slice_set old.openers (who - 1) next
   pub answers : new.answers ≡ old.answers ++ answers_by came
   pub start : new.region.start ≡ old.region.start
   pub noted : new.noted ≡ old.noted
   pub makes : MakesOne (share_of old.region who) (share_of new.region who)
+  pub others : (w : ℕ) → 1 ≤ w → w ≤ 64 → w ≢ who → loads_of new w ≡ loads_of old w
   pub adds : AddsTo o.who o.work came next.work (share_of old.region who) (share_of new.region who)
   pub call : KeepsWork o came next
   pub cause : HasCause o.work came next.work (share_of old.region who) (share_of new.region who)
@@ -135,3 +141,33 @@ abbrev pub HoldsAreKept : ℕ → WorldState → WorldState → Type 0
 HoldsAreKept who old new =
     (other : ℕ) (p : OpenerState) → other ≢ who → Lives old.openers other p → 0 < p.holds →
     (region_after new.region.start new.region.past ≡ region_after old.region.start old.region.past) × (changes_of new.region.past ≡ changes_of old.region.past)
+
+-- what moves a world: an opener is opened, or begins a call, or makes a step
+pub data Move : Type 0 where
+  Opening : ℕ → Move
+  Beginning : ℕ → Call → ℕ → Move
+  Stepping : ℕ → Moved → Move
+
+abbrev pub IsMove : Move → WorldState → WorldState → Type 0
+IsMove (Opening who) old new = Opens who old new
+IsMove (Beginning who asked now) old new = Begun who asked now old new
+IsMove (Stepping who said) old new = Moves who said old new
+
+-- these moves, the latest first, lead from one world to the other
+abbrev pub Lead : List Move → WorldState → WorldState → Type 0
+Lead [] old new = new ≡ old
+Lead (m ∷ moves) old new = (between : WorldState) × Lead moves old between × IsMove m between new
+
+-- a world came from another by moves alone
+pub record CameFrom (old new : WorldState) : Type 0 where
+  pub moves : List Move
+  pub lead : Lead moves old new
+
+-- the loads that an opener's answers count
+abbrev pub loads_in : ℕ → List Answer → ℕ
+loads_in who [] = 0
+loads_in who (a ∷ answers) = (if a.who == who then a.loads else 0) + loads_in who answers
+
+-- an opener's answers count no more loads than it made since the first of these worlds, unless its count stands at its end
+abbrev pub CountsLoads : ℕ → WorldState → WorldState → Type 0
+CountsLoads who old new = (loads_in who new.answers ≤ loads_of new who - loads_of old who) ⊎ (loads_of new who ≡ 2 ^ 64 - 1)

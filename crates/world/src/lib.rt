@@ -2,11 +2,13 @@
 #![tactic(auto)]
 
 mod base;
+mod laws;
 mod moves;
 mod openers;
 mod stops;
 mod world;
 
+pub use laws::answers_count_loads_that_were_made;
 pub use moves::Moved;
 pub use openers::MOST_OPENERS;
 pub use stops::{NotOpened, OpenStop, WorldStop};

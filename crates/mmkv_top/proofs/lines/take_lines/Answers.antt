@@ -4,6 +4,7 @@ use Rattle.mmkv_top.specs.State.{play_state}
 use Rattle.mmkv_top.specs.Played.{stock_of}
 use Rattle.mmkv_top.specs.Play.{texts_of, without_feed}
 use Rattle.mmkv_top.specs.Progress.{IsTaken, TextHalts, TakesText}
+use Rattle.world.proofs.Loaded.{came_join, came_still}
 use Rattle.mmkv_top.proofs.Taking.{none_taken, one_taken, stops_there}
 use Rattle.mmkv_top.proofs.lines.take_lines.Goals as goal
 
@@ -28,6 +29,7 @@ loop-line-preserved g c =
       c.take_text.ensures.sound,
       one_taken stock (stock_of c.loop-line.handlers) (stock_of c.take_text.new.handlers) start texts (map without_feed c.next.new.self) (without_feed c.in-Some.line.now) p q c.loop-line.count taken
           (subst (λ x. TakesText stock (stock_of c.take_text.new.handlers) start taken.parts c.loop-line.count x q) c.text_of.ensures (c.in_default.ensures.taken stock start taken.parts taken.at)),
+      came_join c.args.world.now c.loop-line.world c.take_text.new.world c.loop-line.invariant.2 c.take_text.ensures.moved,
     )
 
 pub loop-line-init : goal.loop-line-init
@@ -38,4 +40,11 @@ loop-line-init g c =
     let lines = c.into_iter-line-iterator.ensures.into_iter_gives ∙ c.lines_with_terminator-line-items.ensures.value in (
       c.requires.sound,
       subst (λ x. IsTaken stock stock c.args.world.now.region.start texts (map without_feed x) p 0) (sym lines) (none_taken stock stock c.args.world.now.region.start texts p c.requires.at),
+      came_still c.args.world.now,
     )
+
+pub returns-in-Err-clause-moved : goal.returns-in-Err-clause-moved
+returns-in-Err-clause-moved g c = came_join c.args.world.now c.loop-line.world c.take_text.new.world c.loop-line.invariant.2 c.take_text.ensures.moved
+
+pub returns-clause-moved : goal.returns-clause-moved
+returns-clause-moved g c = c.loop-line.invariant.2

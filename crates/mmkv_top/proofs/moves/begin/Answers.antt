@@ -4,6 +4,8 @@ use Rattle.script_lang.specs.declared.line.Line.TheVariants.{Begin}
 use Rattle.mmkv_top.specs.State.{play_state}
 use Rattle.mmkv_top.specs.Progress.{HasHalted}
 use Rattle.mmkv_top.proofs.Beginning.{begin_halted, begin_taken}
+use Rattle.world.specs.Moves.{Beginning}
+use Rattle.world.proofs.Loaded.{came_on, came_still}
 use Rattle.mmkv_top.proofs.moves.begin.Goals as goal
 
 pub returns-in-Ok-clause-taken : goal.returns-in-Ok-clause-taken
@@ -16,3 +18,7 @@ pub returns-in-Err-clause-taken : goal.returns-in-Err-clause-taken
 returns-in-Err-clause-taken g c = λ stock left start parts text at.
     subst (HasHalted stock start parts (Some (Begin c.args.who c.args.now c.args.call))) (sym c.from.ensures)
     (begin_halted stock left start parts (play_state c.args.world.now text) c.args.who c.args.now c.args.call c.in-Err.why at c.in-Err.ensures.err)
+
+pub returns-in-Ok-clause-moved : goal.returns-in-Ok-clause-moved
+returns-in-Ok-clause-moved g c =
+    let w = c.args.world.now in came_on w w c.begin.new.self (Beginning c.args.who c.args.call c.args.now) (came_still w) c.in-Ok.ensures.ok

@@ -5,6 +5,8 @@ use Rattle.mmkv_top.specs.State.{play_state}
 use Rattle.mmkv_top.specs.Played.{stock_of}
 use Rattle.mmkv_top.specs.Progress.{HasHalted}
 use Rattle.mmkv_top.proofs.Opening.{none_drawn, one_drawn, open_halted, open_taken, undrawn_halted}
+use Rattle.world.specs.Moves.{Opening}
+use Rattle.world.proofs.Loaded.{came_on, came_still}
 use Rattle.mmkv_top.proofs.moves.open.Goals as goal
 
 pub returns-in_default-clause-taken : goal.returns-in_default-clause-taken
@@ -26,3 +28,6 @@ returns-in-Err-clause-taken g c = λ stock start parts text at.
     (open_halted stock (stock_of c.args.handlers.now) (stock_of c.draw.new.self) start parts (play_state c.args.world.now text) c.args.strategy c.requires.sound at
     (one_drawn c.args.handlers.now.discard.items c.draw.new.self.discard.items c.args.handlers.now.recover.items c.draw.new.self.recover.items c.args.handlers.now.leave.items c.draw.new.self.leave.items
     c.in-Some.handler c.args.strategy c.in-Some.ensures.discard c.in-Some.ensures.recover c.in-Some.ensures.leave) c.in-Err.refused.why c.in-Err.ensures.err)
+
+pub returns-in-Ok-clause-moved : goal.returns-in-Ok-clause-moved
+returns-in-Ok-clause-moved g c = let w = c.args.world.now in came_on w w c.open.new.self (Opening c.in-Ok.field-0) (came_still w) c.in-Ok.ensures.ok

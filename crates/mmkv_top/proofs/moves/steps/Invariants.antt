@@ -5,6 +5,7 @@ use Rattle.opener.specs.declared.calls.Step.TheVariants as step
 use Rattle.region_words.specs.Region.{Region}
 use Rattle.region_words.specs.declared.event.Event.{Event}
 use Rattle.world.specs.World.{IsSound, Lives}
+use Rattle.world.specs.Moves.{CameFrom}
 use Rattle.world.specs.declared.moves.Moved.TheVariants as moved
 use Rattle.mmkv_top.specs.Parts.{Running}
 use Rattle.mmkv_top.specs.Progress.{Stepped, Walks, seat_at}
@@ -16,3 +17,4 @@ invariant-loop g l =
     × ((o : OpenerState) → Lives l.fn.world.openers l.fn.who o → (start : Region) (past : List Event) (held : ℕ) (before : Option Running) →
     Stepped l.fn.who (length l.fn.world.openers) start past held before o.work 0 step.Going [] o (seat_at l.fn.who l.fn.world.region) →
     Walks l.fn.who (length l.fn.world.openers) start past held before o.work l.counter moved.Going l.fn.world l.world)
+    × CameFrom l.fn.world l.world

@@ -11,8 +11,8 @@ use Rattle.mmkv_top.proofs.Taking.{beyond_all, halts_beyond}
 use Rattle.mmkv_top.proofs.Ended.{ended_early}
 use Rattle.mmkv_top.proofs.play.play_cut.Goals as goal
 
-pub returns-in-Ok : goal.returns-in-Ok
-returns-in-Ok g c =
+pub returns-in-Ok-clause-played : goal.returns-in-Ok-clause-played
+returns-in-Ok-clause-played g c =
     let stock = stock_of c.args.handlers.now in
     let start = c.args.world.now.region.start in
     let size = c.end_of_lines-size.result in
@@ -29,8 +29,8 @@ returns-in-Ok g c =
       ),
     )) c.script_refused.ensures
 
-pub returns-in-Err : goal.returns-in-Err
-returns-in-Err g c =
+pub returns-in-Err-clause-played : goal.returns-in-Err-clause-played
+returns-in-Err-clause-played g c =
     let stock = stock_of c.args.handlers.now in
     let start = c.args.world.now.region.start in
     let size = c.end_of_lines-size.result in

@@ -1,4 +1,4 @@
-use Rattle.std.proofs.Common.{◌≡◌, ◌∙◌, [], ap, sym, subst}
+use Rattle.std.proofs.Common.{◌≡◌, ◌∙◌, ap, sym, subst}
 use Rattle.std.proofs.lemmas.Result.{IfOk-weaker}
 use Rattle.std.specs.Prelude.{Ok}
 use Rattle.region_words.specs.Outside.{Rose}
@@ -9,11 +9,13 @@ use Rattle.world.specs.World.{WorldState}
 use Rattle.mmkv_top.specs.Played.{stock_of}
 use Rattle.mmkv_top.specs.Due.{IsInputPlay, IsPlayOf}
 use Rattle.mmkv_top.proofs.Ended.{accepted_shown, whole_shown}
-use Rattle.mmkv_top.proofs.Opening.{no_lines}
 use Rattle.mmkv_top.proofs.play.play_region.Goals as goal
 
-pub play_input-ending-requires-clause-at : goal.play_input-ending-requires-clause-at
-play_input-ending-requires-clause-at g c = no_lines (stock_of c.args.handlers.now) c.args.region c.new-world.result c.new-world.ensures.new c.requires.past c.requires.new c.requires.steady
+pub play_input-ending-requires-clause-unopened : goal.play_input-ending-requires-clause-unopened
+play_input-ending-requires-clause-unopened g c = ap (λ (w : WorldState). w.openers) c.new-world.ensures.new
+
+pub play_input-ending-requires-clause-steady : goal.play_input-ending-requires-clause-steady
+play_input-ending-requires-clause-steady g c = ap (λ (w : WorldState). w.region.failing.listed) c.new-world.ensures.new ∙ c.requires.steady
 
 pub new-world-requires-clause-accepted : goal.new-world-requires-clause-accepted
 new-world-requires-clause-accepted g c =
