@@ -32,26 +32,26 @@ pub fn start_size_repair(alloc: Global, standing: &Standing) -> Result<RowMaker,
 }
 
 /// The stores that put the last confirmed image in the place of one that is broken: the sequence, the two sizes, and the checksum
-/// with the change. `record` is the region's, and `standing` what is known of the last confirmed image.
+/// with the change. `rec` is the region's, and `standing` what is known of the last confirmed image.
 pub fn start_restore(
     alloc: Global,
     standing: &Standing,
-    record: &Record,
+    rec: &Record,
     change: Change,
 ) -> Result<RowMaker, RepairStop>
-    ensures ok { IfOk result (λ row. row ≡ restoring standing.now record.now change) }
+    ensures ok { IfOk result (λ row. row ≡ restoring standing.now rec.now change) }
     ensures begun { OnOk result (standing.now.sequence < 0xffffffff) }
     ensures err { IfErr result (IsNoRepair standing.now) }
 {
     if standing.sequence == u32::MAX {
         return Err(RepairStop::SequenceEnd);
     }
-    match restoring_events(alloc, standing, record, change) {
+    match restoring_events(alloc, standing, rec, change) {
         Ok(events) => {
             let after = Standing {
                 sequence: standing.sequence + 1,
-                size: record.last_size,
-                checksum: record.last_checksum,
+                size: rec.last_size,
+                checksum: rec.last_checksum,
                 ..*standing
             };
             Ok(row_of(alloc, events, after))
@@ -92,17 +92,17 @@ pub fn start_discard(
 fn restoring_events(
     alloc: Global,
     standing: &Standing,
-    record: &Record,
+    rec: &Record,
     change: Change,
 ) -> Result<Vec<What>, Memory>
     requires { standing.now.sequence < 0xffffffff }
-    ensures { IfOk result (λ events. events.items ≡ (restoring standing.now record.now change).events) }
+    ensures { IfOk result (λ events. events.items ≡ (restoring standing.now rec.now change).events) }
 {
     Ok(vec![in alloc;
         What::meta(WORD_SEQUENCE as u32, standing.sequence + 1),
-        What::data(0, record.last_size),
-        What::meta(WORD_SIZE as u32, record.last_size),
-        committing(record.last_checksum, change),
+        What::data(0, rec.last_size),
+        What::meta(WORD_SIZE as u32, rec.last_size),
+        committing(rec.last_checksum, change),
     ]?)
 }
 

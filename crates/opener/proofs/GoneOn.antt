@@ -109,6 +109,7 @@ module _ (start : Region) (past : List Event) (region : IsRegion start) (l : Law
   image_is : IsImage i start past
   image_is =
       record {
+        accepted = before.accepted;
         file = omega (arith, has.file, ap (λ (i : Image). i.standing.file_size) is);
         firm = λ none. ap (λ (i : Image). i.standing.version) is ∙ before.firm none;
         shown = λ ok apart. record { later = []; earlier = past; is = refl; shown = shown_is ok apart };

@@ -19,7 +19,7 @@ use Rattle.opener.specs.declared.calls.Stop.{Stop}
 use Rattle.opener.specs.declared.calls.Stop.TheVariants as why
 use Rattle.opener.specs.declared.work.Running.{Running}
 use Rattle.opener.specs.declared.work.Stage.{Stage}
-use Rattle.opener.specs.declared.work.Stage.TheVariants.{PeekChecksum, PeekSequence, LockShared, LockExclusive, Load, Size, Reserve, Store, Unlock, Hold, Release}
+use Rattle.opener.specs.declared.work.Stage.TheVariants.{PeekChecksum, PeekSequence, LockShared, LockExclusive, Continue, Load, Size, Reserve, Store, Unlock, Hold, Release}
 use Rattle.opener.specs.declared.work.Work.{Work}
 use Rattle.opener.specs.declared.work.Work.TheVariants.{Runs}
 use Rattle.opener.proofs.Falling.{always_told}
@@ -88,8 +88,9 @@ refused_stops {o} {running} {stage} {result} {new} {s} {t} steps = go stage step
     go : (stage : Stage) → KeepsCall o.who o.holds running result new → HasCause (Runs running stage) result new.work s t → ActsAt result stage o.image new.work s t → StopsWhereRefused stage result new.work t
     go PeekChecksum call cause acts = tt
     go (PeekSequence peek) call cause acts = tt
-    go LockShared call cause acts = tt
+    go (LockShared extent) call cause acts = tt
     go LockExclusive call cause acts = tt
+    go (Continue loading) call cause acts = tt
     go (Load loading) call cause acts = at_load o running loading result new s t call cause acts
     go Size call cause acts = tt
     go (Reserve plan) call cause acts = tt

@@ -17,7 +17,7 @@ returns-in-Runs-clause-settles g c =
 pub returns-in-Runs-clause-refused : goal.returns-in-Runs-clause-refused
 returns-in-Runs-clause-refused g c =
     step_refused _ c.args.self.now c.in-Runs.running c.in-Runs.stage c.go.result c.go.new.self (g.S.Share.state c.go.new.share) c.self.view_is
-    (sym c.replace.ensures.value ∙ c.in-Runs.is) (refused_stops c.go.ensures)
+    (sym c.replace.ensures.value ∙ c.in-Runs.is) (refused_stops c.go.ensures.steps)
 
 pub returns-in-Runs-clause-quiet : goal.returns-in-Runs-clause-quiet
 returns-in-Runs-clause-quiet g c = shows_quietly c.go.new.self (g.S.Share.state c.go.new.share) c.go.ensures.steps.tied
