@@ -1,0 +1,4 @@
+pub mod InRange
+pub mod FilesInside
+pub mod SeenInside
+pub mod RunInside
