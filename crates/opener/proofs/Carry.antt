@@ -33,7 +33,7 @@ use Rattle.region_words.proofs.LockOf.{holds_some}
 use Rattle.region_words.proofs.Notices.{kept_at_rest}
 use Rattle.region_words.proofs.ReadLaws.{apart_front, changes_more, lawful_front}
 use Rattle.region_words.proofs.StaysFirm.{fresh_before, file_grows}
-use Rattle.region_words.proofs.Telling.{told_and, told_map, told_step, grows_to, grows_from}
+use Rattle.region_words.proofs.Telling.{told_and, told_step, grows_to, grows_from}
 use Rattle.expiring_map.specs.Map.{Map}
 use Rattle.loader.specs.Loads.{HasLoaded}
 use Rattle.loader.specs.declared.loaded.Image.{Image}

@@ -30,7 +30,7 @@ use Rattle.region_words.proofs.OwedRows.{append_within}
 use Rattle.region_words.proofs.Regions.{All-from_Small, lawful_accepted, lawful_region}
 use Rattle.region_words.proofs.RowsStand.{item_bytes}
 use Rattle.region_words.proofs.StorableRows.{append_storable}
-use Rattle.region_words.proofs.Telling.{told_and, told_map, told_step}
+use Rattle.region_words.proofs.Telling.{told_and, told_step}
 use Rattle.std.proofs.lemmas.List.Sums.{fold-append}
 use Rattle.appender.specs.Appends.{CanAppend, appending}
 use Rattle.opener.specs.State.{OpenerState}

@@ -197,10 +197,12 @@ module _ (o : OpenerState) (running next : Running) (old : Loading) (result : St
         (λ start past region lawful mine facts is. (sym is.shown, rest_now o running old start past s.who lawful facts (lock_by o.holds running.taken) refl tied.at.2.1 (mine ∙ tied.holds)))
 
     no_reason : (z : Shown) → ((n : ℕ) → z ≢ seen.Whole n) → found.shown ≡ z → HasReason (Runs running (Load old)) (why.NotWhole z) s t
-    no_reason z other e =
-        (tt, told_and t.told (λ h. (shown (region_after h.start h.past) ≡ found.shown) × (Apart h.start h.past → AtRest h.start h.past)) (λ h. IsAccepted (region_after h.start h.past))
-        (λ h. (shown (region_after h.start h.past) ≡ z) × ((n : ℕ) → z ≢ seen.Whole n) × (Apart h.start h.past → AtRest h.start h.past) × IsAccepted (region_after h.start h.past))
-        (λ h is ok. (is.0 ∙ e, other, is.1, ok)) seen_at_rest accepted)
+    no_reason z other e = (
+      tt,
+      told_and t.told (λ h. (shown (region_after h.start h.past) ≡ found.shown) × (Apart h.start h.past → AtRest h.start h.past)) (λ h. IsAccepted (region_after h.start h.past))
+          (λ h. (shown (region_after h.start h.past) ≡ z) × ((n : ℕ) → z ≢ seen.Whole n) × (Apart h.start h.past → AtRest h.start h.past) × IsAccepted (region_after h.start h.past))
+          (λ h is ok. (is.0 ∙ e, other, is.1, ok)) seen_at_rest accepted,
+    )
 
     abbrev Is : Shown → Type 0
     Is z = IsLoadedBy z next found place o result new

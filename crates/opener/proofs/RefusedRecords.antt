@@ -1,17 +1,17 @@
 -- The tenth load of a region whose record is refused stops the call.
-use Rattle.std.proofs.Common.{◌≡◌, ◌⊎◌, refl, sym, subst, inl, inr}
-use Rattle.std.specs.Prelude.{Option, Some, None, Result, Ok, Err, IfErr, IfSome, IsOk, ⊤}
+use Rattle.std.proofs.Common.{◌≡◌, refl, sym, subst, inl, inr}
+use Rattle.std.specs.Prelude.{Option, Some, None, Result, Ok, Err, IfErr, IfSome, IsOk}
 use Rattle.meta_record.specs.Records.{checked}
 use Rattle.meta_record.specs.declared.record.RecordFault.{RecordFault}
 use Rattle.region_words.specs.Region.{Region, IsAccepted, header, record_of}
 use Rattle.region_words.specs.Past.{region_after}
 use Rattle.region_words.specs.Share.{ShareState}
-use Rattle.region_words.specs.Told.{History, OnTold}
+use Rattle.region_words.specs.Told.{OnTold}
 use Rattle.region_words.proofs.Telling.{told_map}
 use Rattle.loader.specs.Loads.{Load as Loading, loads_of}
 use Rattle.opener.specs.State.{OpenerState}
 use Rattle.opener.specs.Opener.{HasReason, HasCause, StopIs, KeepsCall, stop_found}
-use Rattle.opener.specs.Refused.{IsNamed, StopsFor, StopsWhereRefused}
+use Rattle.opener.specs.Refused.{IsNamed, StopsWhereRefused}
 use Rattle.opener.specs.Steps.{ActsAt, FindsAccepted, OnRunning, Steps}
 use Rattle.opener.specs.declared.calls.Step.{Step}
 use Rattle.opener.specs.declared.calls.Step.TheVariants as step
@@ -20,7 +20,6 @@ use Rattle.opener.specs.declared.calls.Stop.TheVariants as why
 use Rattle.opener.specs.declared.work.Running.{Running}
 use Rattle.opener.specs.declared.work.Stage.{Stage}
 use Rattle.opener.specs.declared.work.Stage.TheVariants.{PeekChecksum, PeekSequence, LockShared, LockExclusive, Continue, Load, Size, Reserve, Store, Unlock, Hold, Release}
-use Rattle.opener.specs.declared.work.Work.{Work}
 use Rattle.opener.specs.declared.work.Work.TheVariants.{Runs}
 use Rattle.opener.proofs.Falling.{always_told}
 

@@ -1,11 +1,11 @@
 -- A region in which a row has begun had an accepted record at its start, and so had one that is accepted between rows.
-use Rattle.std.proofs.Common.{◌≡◌, ◌≢◌, ◌⊎◌, ℕ, ◌≤◌, Bool, true, false, List, [], ◌∷◌, sym, ap, subst, inl, inr, arith}
+use Rattle.std.proofs.Common.{◌⊎◌, ℕ, Bool, true, false, List, [], ◌∷◌, subst, inl, inr, arith}
 use Rattle.std.specs.Prelude.{Option, Some, None, IsOk, ⊤}
 use Rattle.expiring_map.specs.Map.{Map}
 use Rattle.meta_record.specs.Records.{checked}
 use Rattle.meta_record.proofs.WordLemmas.{other_word}
-use Rattle.lock_rules.specs.Locks.{Locks, holds_exclusive}
-use Rattle.region_words.specs.Region.{Region, IsAccepted, record_of, header}
+use Rattle.lock_rules.specs.Locks.{holds_exclusive}
+use Rattle.region_words.specs.Region.{Region, IsAccepted, record_of}
 use Rattle.region_words.specs.Past.{region_after, region_step, locks_after}
 use Rattle.region_words.specs.Coming.{IsComing, IsStoring}
 use Rattle.region_words.specs.Rows.{Row}
