@@ -18,3 +18,4 @@ mod Histories
 mod Judged
 mod Taking
 mod Ended
+mod Barred

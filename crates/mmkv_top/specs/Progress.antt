@@ -4,8 +4,6 @@ use Rattle.change_log.specs.Settled.{AreEndedBy}
 use Rattle.change_log.specs.declared.call.Answer.{Answer}
 use Rattle.change_log.specs.declared.call.Call.{Call as Asked}
 use Rattle.handlers.specs.declared.handler.Strategy.{Strategy}
-use Rattle.lock_rules.specs.Locks.{IsLeastAgainst}
-use Rattle.lock_rules.specs.declared.table.LockKind.{LockKind}
 use Rattle.opener.specs.Adds.{AreStoredBy}
 use Rattle.opener.specs.Bound.{steps_left}
 use Rattle.opener.specs.Counted.{counted}
@@ -25,7 +23,7 @@ use Rattle.opener.specs.declared.work.Work.TheVariants.{Idle, Runs}
 use Rattle.meta_record.specs.declared.shown.Shown.TheVariants.{Whole}
 use Rattle.region_words.specs.Apart.{Apart}
 use Rattle.region_words.specs.Region.{Region, file_size, shown}
-use Rattle.region_words.specs.Past.{AreSteps, NoneDies, changes_of, locks_after, region_after}
+use Rattle.region_words.specs.Past.{AreSteps, NoneDies, changes_of, region_after}
 use Rattle.region_words.specs.Local.{Local, Seated, account_of}
 use Rattle.region_words.specs.declared.event.Event.{Event}
 use Rattle.region_words.specs.declared.event.What.{What}
@@ -46,7 +44,7 @@ use Rattle.mmkv_top.specs.State.{PlayState}
 use Rattle.mmkv_top.specs.Ending.{ending}
 use Rattle.mmkv_top.specs.declared.ending.Ending.{Ending}
 use Rattle.mmkv_top.specs.Parts.{Part, lines_of, past_of, outcomes_of, answers_in, listed, strategies, holds_of, asked_of, locks_among, stores_among, Running, running, going_on}
-use Rattle.mmkv_top.specs.Played.{Stock, stocked, drawn, ArePlayed, AreReasoned, AreRoomy, MeetsFullJournal, MeetsNoImage, AsksFor, IsTooFull, IsAnsweredBy, WasRefused, reason_said}
+use Rattle.mmkv_top.specs.Played.{Stock, stocked, drawn, ArePlayed, AreReasoned, AreRoomy, MeetsFullJournal, MeetsNoImage, AsksFor, IsTooFull, IsAnsweredBy, IsBlockedBy, WasRefused, reason_said}
 use Rattle.mmkv_top.specs.Play.{AreAnswered, AreHistories, AreInTime, IsWithin, AreLines, CanTake, IsFirstRefused, IsHalted, IsRefusedIn, not_yet}
 
 -- the opener runs this call
@@ -68,7 +66,7 @@ abbrev pub CameTo : ℕ → List Event → ℕ → Option Running → Step → O
 CameTo who past held r step.Going o = FollowsWork o.work r × (o.holds ≡ held)
 CameTo who past held None step.Idle o = FollowsWork o.work None × (o.holds ≡ held)
 CameTo who past held (Some r) (step.Blocked holder) o =
-    FollowsWork o.work (Some r) × (o.holds ≡ held) × ((kind : LockKind) × IsLeastAgainst (locks_after past) who kind holder)
+    FollowsWork o.work (Some r) × (o.holds ≡ held) × IsBlockedBy past r who holder
 CameTo who past held (Some r) (step.Answered a) o = (o.work ≡ Idle) × (o.holds ≡ holds_after r.call held) × IsAnsweredBy past r who a
 CameTo who past held (Some r) (step.Stopped why) o = (o.work ≡ Idle) × (o.holds ≡ held)
 CameTo who past held _ _ o = ⊥
