@@ -19,3 +19,4 @@ mod Judged
 mod Taking
 mod Ended
 mod Barred
+mod Marking

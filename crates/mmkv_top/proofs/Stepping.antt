@@ -13,6 +13,7 @@ use Rattle.opener.specs.Adds.{AddsTo, Counts, IsRaised, IsRaisedIn, locks_taken,
 use Rattle.opener.specs.Bound.{Falls, steps_left}
 use Rattle.opener.specs.Opener.{Tied, MakesOne, KeepsWork, KeepsCall, HasCause, HasStopped, OnAnswer, IsAnswer, IsAnswerOf, RunsOn, HasReason, IsAt, IsSeen, Owes, WorkIs, is_ended, is_storing, lock_in, stop_found}
 use Rattle.opener.specs.State.{OpenerState}
+use Rattle.opener.specs.Writes.{commits_of}
 use Rattle.opener.specs.declared.calls.Step.{Step}
 use Rattle.opener.specs.declared.calls.Step.TheVariants as step
 use Rattle.opener.specs.declared.calls.Stop.{Stop}
@@ -42,9 +43,10 @@ use Rattle.region_words.proofs.ReadLaws.{changes_more}
 use Rattle.region_words.proofs.StaysFirm.{file_grows}
 use Rattle.mmkv_top.proofs.Reasoning.{found_later, going_found, holds_of_same, idle_found, stopped_holds}
 use Rattle.mmkv_top.proofs.NoPlaces.{Reserver, alone_asks, at_stop, found_none, reason_now, too_full}
+use Rattle.mmkv_top.proofs.Marking.{commits_few, step_marked}
 use Rattle.mmkv_top.proofs.Storing.{step_stored}
 use Rattle.mmkv_top.proofs.Seeing.{going_saw, saw_still, stopped_saw}
-use Rattle.mmkv_top.specs.Progress.{FoundIs, FoundSaw, HasStored, IsOpenTo, IsUnfull, MetFull, StoppedFull, StoppedIs, StoppedSaw, LeavesFewer, Follows, FollowsWork, CameTo, Stepped, seat_at}
+use Rattle.mmkv_top.specs.Progress.{FoundIs, FoundSaw, HasMarked, HasStored, IsOpenTo, IsUnfull, MetFull, StoppedFull, StoppedIs, StoppedSaw, LeavesFewer, Follows, FollowsWork, CameTo, Stepped, seat_at}
 
 -- what a call on the seat made
 pub record Moved (s t : Seated) : Type 0 where
@@ -456,6 +458,15 @@ stores_made who s t one makes own is =
     let events : made_by s.who own ≡ made_by s.who m.own = append_cancel_right (made_by s.who own) (made_by s.who m.own) s.region.past (is ∙ m.past) in
     sym (stores_of_own s.who own ∙ ap stores_among events ∙ ap (λ w. stores_among (made_by w m.own)) one)
 
+-- and so are its marks
+commits_made : (who : ℕ) (s t : Seated) → s.who ≡ who → (makes : MakesOne (seat_state s) (seat_state t)) (own : List What) → made_by s.who own ++ s.region.past ≡ t.region.past →
+    commits_of own ≡ changes_of (made_by who (moved s t makes).own)
+commits_made who s t one makes own is =
+    let m = moved s t makes in
+    let events : made_by s.who own ≡ made_by s.who m.own = append_cancel_right (made_by s.who own) (made_by s.who m.own) s.region.past (is ∙ m.past) in
+    let few : length own ≤ 1 = omega (arith, m.few, ap length events, length-map own (event_by s.who), length-map m.own (event_by s.who)) in
+    commits_few s.who own few ∙ ap changes_of events ∙ ap (λ w. changes_of (made_by w m.own)) one
+
 -- One step more.
 module _ (who opened : ℕ) (start : Region) (past : List Event) (held : ℕ) (before : Option Running) (first : Work) (n : ℕ) (made : List Event) (o o' : OpenerState) (old new : WorldState) (result : Step)
     (sound : IsSound new) (all : opened ≡ length new.openers) (st : Stepped who opened start past held before first n step.Going made o (seat_at who old.region))
@@ -578,6 +589,8 @@ module _ (who opened : ℕ) (start : Region) (past : List Event) (held : ℕ) (b
         unfull = over_work who IsUnfull o.work t.region.past held goes_by result o' (seat_state t) (λ e. absurd cc) st.unfull unfull came steps.falls;
         stored = subst (HasStored result o'.work) (going_twice own made before)
             (step_stored who s t o.work o'.work result (option_map (going_on made) before) own st.came.0 adds (λ whats is. stores_made who s t refl steps.makes whats is) st.stored);
+        marked = subst (HasMarked who result o'.work) (going_twice own made before)
+            (step_marked who s t o.work o'.work result (option_map (going_on made) before) own st.came.0 adds (λ whats is. commits_made who s t refl steps.makes whats is) st.marked);
         full = step_full (n + 1) (omega arith) goes_by result refl came;
       }
 
@@ -612,6 +625,7 @@ at_most who opened start past held before first n count result made o s below al
       unfull = st.unfull;
       full = met_by result st.full;
       stored = st.stored;
+      marked = st.marked;
     }
   where
     met_by : (last : Step) → StoppedFull who opened last start past before n → StoppedFull who opened last start past before count

@@ -1,5 +1,6 @@
 -- A script that was played: what each line may make. Parts and events stand with the latest first.
-use Rattle.std.specs.Prelude.{◌≡◌, ◌≢◌, ℕ, ◌+◌, ◌<◌, ◌≤◌, ◌⊎◌, Bool, true, false, List, [], ◌∷◌, ◌++◌, Option, Some, None, length, filter, nat_le, ◌&&◌, IsTrue, ⊤}
+use Rattle.std.specs.Prelude.{All, ◌≡◌, ◌≢◌, ℕ, ◌+◌, ◌<◌, ◌≤◌, ◌⊎◌, Bool, true, false, List, [], ◌∷◌, ◌++◌, Option, Some, None, length, filter, nat_le, ◌&&◌, IsTrue, ⊤}
+use Rattle.change_log.specs.Settled.{AreBegun, AreOfCall}
 use Rattle.change_log.specs.declared.call.Answer.{Answer}
 use Rattle.change_log.specs.declared.call.Call.{Call}
 use Rattle.handlers.specs.declared.handler.Strategy.{Strategy}
@@ -125,11 +126,19 @@ IsOutcomeOf past c who (Some (Answered a)) = IsAnsweredBy past c who a
 IsOutcomeOf past c who (Some (Blocked w holder)) = (w ≡ who) × IsBlockedBy past c who holder
 IsOutcomeOf past c who (Some (Stopped w why)) = (w ≡ who) × IsPrinted why × (stores_among c.since ≡ 0)
 
+-- what a call has changed since it began: all that it makes, where it is answered; nothing, where it is stopped; and else the first part of
+-- what it makes, or all
+abbrev pub AreMarks : ℕ → Running → Option Outcome → Type 0
+AreMarks who c (Some (Answered a)) = AreOfCall who c.call c.now (changes_of c.since)
+AreMarks who c (Some (Stopped w why)) = changes_of c.since ≡ []
+AreMarks who c _ = AreBegun who c.call c.now (changes_of c.since)
+
 -- the part of a step line of a running call
 pub record StepsOf (past : List Event) (who count : ℕ) (c : Running) (made : List Event) (outcome : Option Outcome) : Type 0 where
   pub few : length made ≤ count
   pub own : AreSteps who made
   pub ends : IsOutcomeOf (made ++ past) (going_on made c) who outcome
+  pub marks : AreMarks who (going_on made c) outcome
 
 -- without a running call nothing is made
 abbrev pub IsStepLine : List Event → ℕ → ℕ → Option Running → List Event → Option Outcome → Type 0
@@ -145,6 +154,15 @@ Makes parts _ made outcome = (made ≡ []) × (outcome ≡ None)
 abbrev pub IsPartOf : Stock → List Part → Option Line → List Event → Option Outcome → Type 0
 IsPartOf stock parts None made outcome = (made ≡ []) × (outcome ≡ None)
 IsPartOf stock parts (Some l) made outcome = MayCome stock parts l × Makes parts l made outcome
+
+-- from the answer of a hold to the last release nobody else's change is marked
+abbrev pub IsHeld : Part → List Part → Type 0
+IsHeld p parts = (who : ℕ) → 0 < holds_of who parts → All (λ c. c.maker ≡ who) (changes_of p.made)
+
+-- at each line
+abbrev pub AreHeld : List Part → Type 0
+AreHeld [] = ⊤
+AreHeld (p ∷ parts) = AreHeld parts × IsHeld p parts
 
 -- where the line's call was stopped, its write was refused for the reason that is printed
 abbrev pub IsReasoned : Region → Part → List Part → Type 0
