@@ -4,6 +4,8 @@ use Rattle.std.proofs.lemmas.Bool.Decides.{eqb_tells, nat_tests}
 use Rattle.std.proofs.lemmas.List.{length-set}
 use Rattle.std.proofs.lemmas.List.Elements.{filter-append}
 use Rattle.std.specs.Prelude.{Option, Some, None, IfSome, IsTrue, flat_map, nat_le, option_map, slice_get, ◌&&◌, ◌==◌, if◌then◌else◌}
+use Rattle.std.proofs.lemmas.List.Elements.{All-nil}
+use Rattle.change_log.specs.declared.change.Change.{Change}
 use Rattle.change_log.specs.declared.call.Answer.{Answer}
 use Rattle.change_log.specs.declared.call.Call.{Call as Asked}
 use Rattle.change_log.specs.Settled.{AreEndedBy}
@@ -43,9 +45,9 @@ use Rattle.mmkv_top.specs.State.{PlayState, play_state}
 use Rattle.mmkv_top.specs.declared.halt.Halt.{Halt}
 use Rattle.mmkv_top.specs.declared.halt.Halt.TheVariants as halt
 use Rattle.mmkv_top.specs.Parts.{going_on, Part, answers_in, asked_of, lives, opened_by, outcomes_of, past_of, running, Running, strategies}
-use Rattle.mmkv_top.specs.Play.{AreAnswered, CanTake}
+use Rattle.mmkv_top.specs.Play.{AreAnswered, CanTake, IsPlayableLine}
 use Rattle.mmkv_top.specs.Played.{IsPartOf, IsTooFull, MetNoPlace, Stock, drawn, is_same, places_after, stocked}
-use Rattle.mmkv_top.specs.Progress.{AreEarlier, FollowsWork, FoundIs, FoundSaw, HasHalted, HasStored, IsAt, IsBounded, IsNobody, IsOpenTo, IsOpened, IsUnfull, IsUnopened, StopSaw, Takes, TakesOne}
+use Rattle.mmkv_top.specs.Progress.{AreEarlier, FollowsWork, FoundIs, FoundSaw, HasHalted, HasMarked, HasStored, IsAt, IsBounded, IsNobody, IsOpenTo, IsOpened, IsUnfull, IsUnopened, StopSaw, Takes, TakesOne}
 use Rattle.mmkv_top.proofs.Histories.{history_of}
 use Rattle.mmkv_top.proofs.Answering.{earlier_now, nothing_answered}
 use Rattle.mmkv_top.proofs.InTime.{begin_bounded, in_time}
@@ -53,6 +55,7 @@ use Rattle.mmkv_top.proofs.NoPlaces.{no_place, opener_there, roomy}
 use Rattle.mmkv_top.proofs.Stepping.{follows_alive}
 use Rattle.mmkv_top.proofs.Others.{begin_asked, begin_other, opened_still, unopened_still}
 use Rattle.mmkv_top.proofs.Reasoning.{begin_found, begun_stopless, quiet_reasoned}
+use Rattle.mmkv_top.proofs.Marking.{begun_marked}
 use Rattle.mmkv_top.proofs.Storing.{begun_stored}
 use Rattle.mmkv_top.proofs.Walked.{lives_in, opened_at}
 
@@ -68,6 +71,7 @@ pub record Quiet (stock left left' : Stock) (start : Region) (parts : List Part)
   pub answers : q.world.answers ≡ p.world.answers
   pub text : q.text ≡ p.text
   pub may : IsPartOf stock parts line [] None
+  pub playable : IsPlayableLine line
   pub count : length q.world.openers ≡ length (strategies (record { line = line; made = []; outcome = None } ∷ parts))
   pub open_to : IsOpenTo (length (strategies (record { line = line; made = []; outcome = None } ∷ parts))) q.world.region
   pub drawn : (s : Strategy) → stocked left' s + drawn s (strategies (record { line = line; made = []; outcome = None } ∷ parts)) ≡ stocked stock s
@@ -87,6 +91,8 @@ quiet_taken stock left left' start parts line p q at k = (
     steady = k.listed ∙ at.steady;
     live = at.live;
     each = (at.each, k.may);
+    playable = (at.playable, k.playable);
+    held = (at.held, λ who some. All-nil (λ (c : Change). c.maker ≡ who));
     in_time = (at.in_time, in_time start grown q.world.openers k.openers (λ who is. k.unopened who (subst (λ n. IsNobody n who) k.count is)));
     reasoned = (at.reasoned, quiet_reasoned start (record { line = line; made = []; outcome = None }) parts refl);
     roomy = (at.roomy, subst (IsRoomy (length (strategies grown))) (k.past ∙ at.past) (roomy q.world k.sound (length (strategies grown)) k.open_to (sym k.count)));
@@ -130,6 +136,7 @@ nothing_taken stock left start parts p line none sound at =
       answers = refl;
       text = refl;
       may = (refl, refl);
+      playable = tt;
       count = at.count ∙ sym (ap length kept);
       open_to = subst (λ n. IsOpenTo n p.world.region) (sym (ap length kept)) at.open_to;
       drawn = drawn_still stock left start parts None refl at.drawn;
@@ -193,6 +200,8 @@ module _ (stock left : Stock) (start : Region) (parts : List Part) (p q : PlaySt
         found = begin_found call now (length (changes_of p.world.region.past)) o next start (past_of parts) b.begins;
         saw = subst (λ x. IfSome x (λ why. StopSaw why start (past_of parts))) (sym (begun_stopless call now (length (changes_of p.world.region.past)) o next b.begins)) tt;
         unfull = λ e. let both : None ≡ Some stop.JournalFull = sym (begun_stopless call now (length (changes_of p.world.region.past)) o next b.begins) ∙ e in absurd cc;
+        marked = subst (HasMarked who step.Going next.work) (sym runs_now)
+            (begun_marked who call now (length (changes_of p.world.region.past)) o next (record { call = call; now = now; past = past_of parts; since = [] }) b.begins refl refl refl);
         stored = subst (HasStored step.Going next.work) (sym runs_now) (begun_stored next.work (record { call = call; now = now; past = past_of parts; since = [] }) refl);
       }
 
@@ -248,6 +257,7 @@ module _ (stock left : Stock) (start : Region) (parts : List Part) (p q : PlaySt
         answers = b.answers;
         text = text;
         may = (record { alive = lives_in parts p.world.openers who o at.count at.live b.lives; idle = free.0; asks = subst (λ h. call_refusal call h ≡ None) op.holds free.1 }, (refl, refl));
+        playable = built;
         count = count_now ∙ sym (ap length kept);
         open_to = subst (λ n. IsOpenTo n q.world.region) (sym (ap length kept)) (subst (λ (l : Local). IsOpenTo (length (strategies parts)) l) (sym b.region) at.open_to);
         drawn = drawn_still stock left start parts (Some (Begin who now call)) refl at.drawn;

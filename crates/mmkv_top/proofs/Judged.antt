@@ -15,6 +15,8 @@ pub journal_of : (stock left : Stock) (start : Region) (parts : List Part) (p : 
 journal_of stock left start parts p sound at =
     record {
       each = at.each;
+      playable = at.playable;
+      held = at.held;
       lawful = told (λ r past answers. Lawful r past) p.world start (past_of parts) (answers_in (outcomes_of parts)) at.start_is at.past at.answers sound.lawful;
       in_time = at.in_time;
       reasoned = at.reasoned;

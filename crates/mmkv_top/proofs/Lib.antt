@@ -18,3 +18,5 @@ mod Histories
 mod Judged
 mod Taking
 mod Ended
+mod Barred
+mod Marking

@@ -27,6 +27,7 @@ use Rattle.mmkv_top.specs.Play.{AreAnswered}
 use Rattle.mmkv_top.specs.Played.{IsOutcomeOf, IsStepLine}
 use Rattle.mmkv_top.specs.Progress.{AreEarlier, CameTo, FollowsWork, HasStored, IsOutcomeAt, IsTextOf}
 use Rattle.mmkv_top.proofs.Answering.{answered_later, answers_one, earlier_on, one_within, within_later}
+use Rattle.mmkv_top.proofs.Marking.{MarksLine}
 use Rattle.mmkv_top.proofs.Reasoning.{said_printed}
 use Rattle.mmkv_top.proofs.Storing.{stops_stored}
 
@@ -137,9 +138,9 @@ own_outcome who past made (Some r) (Some (Blocked w holder)) ends = tt
 own_outcome who past made (Some r) (Some (Stopped w why)) ends = tt
 
 pub is_step_line : (who : ℕ) (past made : List Event) (count : ℕ) (r : Option Running) (outcome : Option Outcome) → length made ≤ count → AreSteps who made → (r ≡ None → made ≡ []) →
-    EndsLine who past made r outcome → IsStepLine past who count r made outcome
-is_step_line who past made count None outcome few own idle ends = (idle refl, ends)
-is_step_line who past made count (Some r) outcome few own idle ends = record { few = few; own = own; ends = ends }
+    EndsLine who past made r outcome → MarksLine who made r outcome → IsStepLine past who count r made outcome
+is_step_line who past made count None outcome few own idle ends marks = (idle refl, ends)
+is_step_line who past made count (Some r) outcome few own idle ends marks = record { few = few; own = own; ends = ends; marks = marks }
 
 -- the last of a list
 last_is : (xs : List Answer) (a b : Answer) → slice_get (xs ++ a ∷ []) (length xs) ≡ Some b → b ≡ a

@@ -5,11 +5,13 @@ use Rattle.std.proofs.lemmas.Bool.{cases_lt}
 use Rattle.std.specs.Option.{option_map_or}
 use Rattle.std.specs.Prelude.{Option, Some, None, IsTrue, not, nat_le, slice_get, ◌&&◌, ◌==◌, if◌then◌else◌}
 use Rattle.change_log.specs.declared.call.Call.{Call as Asked}
+use Rattle.change_log.specs.declared.call.Call.TheVariants as call
 use Rattle.lock_rules.specs.Locks.{Locks, MayTake, holds_exclusive}
 use Rattle.lock_rules.specs.declared.table.LockKind.{LockKind}
 use Rattle.lock_rules.specs.declared.table.LockKind.TheVariants.{Exclusive, Shared}
 use Rattle.opener.specs.Opener.{HasReason, HasStopped, IsAt, Owes, Tied, image_at, is_storing, lock_in, stop_found}
-use Rattle.opener.specs.Plans.{IsPlanOf, events_in}
+use Rattle.opener.specs.Calls.{is_write, kind_of, kind_tried}
+use Rattle.opener.specs.Plans.{CanWrite, IsPlanOf, events_in}
 use Rattle.opener.specs.State.{OpenerState}
 use Rattle.opener.specs.declared.calls.Stop.{Stop}
 use Rattle.opener.specs.declared.calls.Stop.TheVariants as stop
@@ -62,11 +64,11 @@ holder w sound who least most some =
     let tied : Tied at.0 (share_of w.region who) = subst (λ v. Tied at.0 (share_of w.region v)) is (sound.each i at.0 at.1).tied in
     tied.holds ∙ reserving at.0 at.0.work (share_of w.region who) some tied.owes tied.at
 
-free_of : (locks : Locks) (who : ℕ) (kind : LockKind) → MayTake locks who kind → locks.exclusive ≡ None
+pub free_of : (locks : Locks) (who : ℕ) (kind : LockKind) → MayTake locks who kind → locks.exclusive ≡ None
 free_of locks who Shared may = may.1
 free_of locks who Exclusive may = may.1
 
-no_holder : (locks : Locks) (w : ℕ) → locks.exclusive ≡ None → IsTrue (holds_exclusive locks w) → ⊥
+pub no_holder : (locks : Locks) (w : ℕ) → locks.exclusive ≡ None → IsTrue (holds_exclusive locks w) → ⊥
 no_holder locks w none is = let never : holds_exclusive locks w ≡ false = ap (λ o. option_map_or (λ h. h == w) o false) none in let both : true ≡ false = sym is ∙ never in absurd cc
 
 same_number : (a b : ℕ) → (a == b) ≡ true → a ≡ b
@@ -81,8 +83,8 @@ one_holder locks v w = go locks.exclusive
 
 -- so where a call asks for places nobody else has any
 pub alone_asks : (start : Region) (who asked : ℕ) (c : Running) (past : List Event) → AsksFor start who c past asked → (w : ℕ) → w ≢ who → lock_of (locks_after past) w ≡ Some Exclusive → ⊥
-alone_asks start who asked c past (inl (two, (kind, may))) w apart held = no_holder (locks_after past) w (free_of (locks_after past) who kind may) (exclusive_is (locks_after past) w held)
-alone_asks start who asked c past (inr (mine, plan)) w apart held = apart (one_holder (locks_after past) w who (exclusive_is (locks_after past) w held) (exclusive_is (locks_after past) who mine))
+alone_asks start who asked c past (inl (two, (kind, takes, may))) w apart held = no_holder (locks_after past) w (free_of (locks_after past) who kind may) (exclusive_is (locks_after past) w held)
+alone_asks start who asked c past (inr (mine, writes, plan)) w apart held = apart (one_holder (locks_after past) w who (exclusive_is (locks_after past) w held) (exclusive_is (locks_after past) who mine))
 
 abbrev first : ℕ → ℕ → Bool
 first opened w = nat_le 1 w && nat_le w opened
@@ -207,20 +209,48 @@ pub record FoundNone (who : ℕ) (r : Running) (s t : Seated) : Type 0 where
   pub asks : AsksFor t.region.start who r t.region.past asked
   pub full : IsFull asked (seat_state t)
 
-for_lock : (who : ℕ) (c : Call) (r : Running) (s t : Seated) → t.who ≡ who → (kind : LockKind) → Goes (unmoved (seat_state s)) (seat_state s) (seat_state t) → IsFull 2 (seat_state t) →
+for_lock : (who : ℕ) (c : Call) (r : Running) (s t : Seated) → t.who ≡ who → (kind : LockKind) → kind_of r.call ≡ Some kind → Goes (unmoved (seat_state s)) (seat_state s) (seat_state t) → IsFull 2 (seat_state t) →
     MayTake (locks_after t.region.past) t.who kind → FoundNone who r s t
-for_lock who c r s t one kind goes full free =
-    record { stays = goes; asked = 2; asks = inl (refl, (kind, subst (λ w. MayTake (locks_after t.region.past) w kind) one free)); full = full }
+for_lock who c r s t one kind takes goes full free =
+    record { stays = goes; asked = 2; asks = inl (refl, (kind, takes, subst (λ w. MayTake (locks_after t.region.past) w kind) one free)); full = full }
+
+-- a try is one of the kind of the call
+kind_at : (c : Call) (at : Stage) (kind : LockKind) → kind_tried c.call at ≡ Some kind → kind_of c.call ≡ Some kind
+kind_at c stage.LockShared kind tried = tried
+kind_at c stage.LockExclusive kind tried = tried
+kind_at c stage.Hold kind tried = tried
+kind_at c stage.PeekChecksum kind tried = absurd cc
+kind_at c (stage.PeekSequence peek) kind tried = absurd cc
+kind_at c (stage.Load loading) kind tried = absurd cc
+kind_at c stage.Size kind tried = absurd cc
+kind_at c (stage.Reserve plan) kind tried = absurd cc
+kind_at c (stage.Store plan) kind tried = absurd cc
+kind_at c (stage.Unlock how) kind tried = absurd cc
+kind_at c stage.Release kind tried = absurd cc
+
+writes : (asked : Asked) → CanWrite asked → is_write asked ≡ true
+writes (call.Put key value seconds) can = refl
+writes (call.Remove key) can = refl
+writes call.Clear can = refl
+writes (call.Get key) can = absurd can
+writes call.Keys can = absurd can
+writes call.Count can = absurd can
+writes (call.Enable seconds) can = absurd can
+writes call.Disable can = absurd can
+writes call.Hold can = absurd can
+writes call.Release can = absurd can
+writes call.Sync can = absurd can
 
 pub found_none : (who : ℕ) (o : OpenerState) (c : Call) (at : Stage) (r : Running) (s t : Seated) → s.who ≡ who → t.who ≡ who → (seat_state s).holds ≡ lock_in o.holds (Runs c at) → IsAt o (Runs c at) →
     c.call ≡ r.call → c.now ≡ r.now → HasReason (Runs c at) stop.JournalFull (seat_state s) (seat_state t) → FoundNone who r s t
-found_none who o c at r s t was one holds is call now (inl h) = for_lock who c r s t one h.0 h.2.0 h.2.1 h.2.2
+found_none who o c at r s t was one holds is call now (inl h) = for_lock who c r s t one h.0 (ap kind_of (sym call) ∙ kind_at c at h.0 h.1) h.2.0 h.2.1 h.2.2
 found_none who o c (stage.Reserve plan) r s t was one holds is call now (inr h) =
     record {
       stays = h.0.0;
       asked = events_in plan;
       asks = inr (
         subst (λ w. lock_of (locks_after t.region.past) w ≡ Some Exclusive) one (h.0.0.after.holds ∙ holds ∙ is.2.0),
+        ap is_write (sym call) ∙ writes c.call is.1,
         (plan, refl, subst (λ w. PlanFor w r.call r.now) was (subst (λ x. PlanFor s.who x r.now) call (subst (λ n. PlanFor s.who c.call n) now h.2))),
       );
       full = h.0.1;

@@ -30,7 +30,7 @@ use Rattle.mmkv_top.specs.State.{PlayState, play_state}
 use Rattle.mmkv_top.specs.declared.halt.Halt.TheVariants as halt
 use Rattle.mmkv_top.specs.Parts.{Part, answers_in, outcomes_of, strategies}
 use Rattle.mmkv_top.specs.Played.{IsTooFull, MetNoPlace, Stock, drawn, is_same, stocked}
-use Rattle.mmkv_top.specs.Progress.{AreEarlier, FollowsWork, HasHalted, HasStored, IsAt, IsNobody, IsOpenTo, IsOpened, IsUnopened, TakesOne}
+use Rattle.mmkv_top.specs.Progress.{AreEarlier, FollowsWork, HasHalted, HasMarked, HasStored, IsAt, IsNobody, IsOpenTo, IsOpened, IsUnopened, TakesOne}
 use Rattle.mmkv_top.proofs.Answering.{nothing_answered}
 use Rattle.mmkv_top.proofs.NoPlaces.{no_place}
 use Rattle.mmkv_top.proofs.Others.{opened_still, unopened_still}
@@ -149,6 +149,7 @@ module _ (stock left left' : Stock) (start : Region) (parts : List Part) (p : Pl
           saw = tt;
           unfull = λ e. absurd cc;
           stored = subst (HasStored step.Going Idle) (sym still_fresh.idle) tt;
+          marked = subst (HasMarked (length (strategies parts) + 1) step.Going Idle) (sym still_fresh.idle) tt;
         }
 
     each_opened : (i : ℕ) (x : OpenerState) → slice_get q.world.openers i ≡ Some x → IsOpened start (record { line = Some (Open strategy); made = []; outcome = None } ∷ parts) (i + 1) x
@@ -203,6 +204,7 @@ module _ (stock left left' : Stock) (start : Region) (parts : List Part) (p : Pl
           answers = opens.answers;
           text = text;
           may = ((omega (arith, opens.least, at.count), enough), (refl, refl));
+          playable = tt;
           count = count_now ∙ sym more;
           open_to = subst (λ k. IsOpenTo k q.world.region) (sym more) open_now;
           drawn = λ s. omega (arith, both_more strategy s (strategies parts), drew s, at.drawn s);
@@ -239,6 +241,8 @@ no_lines stock w sound none listed =
       steady = listed;
       live = tt;
       each = tt;
+      playable = tt;
+      held = tt;
       in_time = tt;
       reasoned = tt;
       roomy = tt;

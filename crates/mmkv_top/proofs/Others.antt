@@ -16,7 +16,7 @@ use Rattle.script_lang.specs.declared.line.Line.TheVariants.{Begin, Step as Step
 use Rattle.script_lang.specs.declared.outcome.Outcome.{Outcome}
 use Rattle.script_lang.specs.declared.outcome.Outcome.TheVariants.{Answered, Blocked, Stopped}
 use Rattle.mmkv_top.specs.Parts.{Part, answers_in, asked_after, asked_of, going_on, held_after, holds_of, listed, outcomes_of, own_of, past_of, running, running_after, Running, stepped}
-use Rattle.mmkv_top.specs.Progress.{AreEarlier, FollowsWork, HasStored, IsBounded, IsOpened, IsUnopened}
+use Rattle.mmkv_top.specs.Progress.{AreEarlier, FollowsWork, HasMarked, HasStored, IsBounded, IsOpened, IsUnopened}
 use Rattle.mmkv_top.proofs.Answering.{earlier_other}
 use Rattle.mmkv_top.proofs.InTime.{asked_other, bounded_later}
 use Rattle.mmkv_top.proofs.LineEnds.{IsOwn, answers_join, still_running}
@@ -83,6 +83,7 @@ module _ (start : Region) (parts : List Part) (maker who count : ℕ) (made : Li
             (earlier_still maker who (running who parts) (answers_in (outcomes_of parts)) outcome n own op.earlier));
         bounded = subst (λ asked. IsBounded o.work asked (file_size (region_after start (made ++ past_of parts)))) (sym (asked_other maker who count outcome (asked_of who parts) n))
             (bounded_later o.work (asked_of who parts) (file_size (region_after start (past_of parts))) (file_size (region_after start (made ++ past_of parts))) (file_grows start made (past_of parts) lawful) op.bounded);
+        marked = subst (HasMarked who step.Going o.work) (sym same) op.marked;
         found = found_later o.work start made (past_of parts) op.found;
         saw = saw_still o.work start made (past_of parts) op.saw;
         unfull = op.unfull;
@@ -109,6 +110,7 @@ module _ (start : Region) (parts : List Part) (line : Option Line) (who : ℕ) (
         earlier = subst (λ r. AreEarlier who r (answers_in (outcomes_of quiet))) (sym same)
             (subst (λ l. AreEarlier who (running who parts) (answers_in l)) (sym (append-nil (outcomes_of parts))) op.earlier);
         bounded = subst (λ asked. IsBounded o.work asked (file_size (region_after start (past_of parts)))) (sym asks) op.bounded;
+        marked = subst (HasMarked who step.Going o.work) (sym same) op.marked;
         found = op.found;
         saw = op.saw;
         unfull = op.unfull;

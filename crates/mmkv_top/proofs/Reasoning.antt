@@ -3,6 +3,7 @@ use Rattle.std.proofs.Common.{◌≡◌, ℕ, ◌≤◌, true, false, inl, inr, 
 use Rattle.std.specs.Prelude.{Bool, Option, Some, None, IfSome, IsTrue, is_some, ◌==◌, ◌&&◌}
 use Rattle.change_log.specs.declared.call.Call.{Call as Asked}
 use Rattle.change_log.specs.declared.call.Call.TheVariants as call
+use Rattle.loader.specs.Loads.{Load}
 use Rattle.loader.specs.declared.loaded.Image.{Image}
 use Rattle.lock_rules.specs.declared.table.LockKind.{LockKind}
 use Rattle.opener.specs.Begins.{Begins, IsFirst, IsFirstPlain, begun_at}
@@ -167,31 +168,29 @@ is_reasoned who start p parts last at stopped c w r runs is = go last at stopped
 pub quiet_reasoned : (start : Region) (p : Part) (parts : List Part) → p.outcome ≡ None → IsReasoned start p parts
 quiet_reasoned start p parts none c who r runs is = let both : None ≡ Some (Stopped who r) = sym none ∙ is in absurd cc
 
--- at its begin a call has found no stop
-reads_stopless : (holds : ℕ) (taken : Option LockKind) (c : Call) (next : Stage) → Reads holds taken next → stop_found (Runs c next) ≡ None
-reads_stopless holds taken c next reads = go (lock_by holds taken) reads
+-- what is true of the stages at which a call can begin
+pub first_at : (P : Stage → Type 0) → P stage.Hold → P stage.Release → P stage.LockExclusive → P stage.PeekChecksum → P stage.LockShared → ((loading : Load) → P (stage.Load loading)) →
+    (asked : Asked) (image : Option Image) (holds : ℕ) (next : Stage) → IsFirst image holds asked next → P next
+first_at P hold release exclusive peek shared load asked image holds next first = go asked first
   where
-    go : (lock : Option LockKind) → ReadsBy lock next → stop_found (Runs c next) ≡ None
-    go None is = ap (λ z. stop_found (Runs c z)) is
-    go (Some kind) (loading, is, fresh) = ap (λ z. stop_found (Runs c z)) is
+    is : (to : Stage) → P to → next ≡ to → P next
+    is to f e = subst P (sym e) f
 
-first_stopless : (asked : Asked) (image : Option Image) (holds : ℕ) (c : Call) (next : Stage) → IsFirst image holds asked next → stop_found (Runs c next) ≡ None
-first_stopless asked image holds c next first = go asked first
-  where
-    is : (to : Stage) → stop_found (Runs c to) ≡ None → next ≡ to → stop_found (Runs c next) ≡ None
-    is to f e = ap (λ z. stop_found (Runs c z)) e ∙ f
+    by : (lock : Option LockKind) → ReadsBy lock next → P next
+    by None e = is stage.LockShared shared e
+    by (Some kind) (loading, e, fresh) = is (stage.Load loading) (load loading) e
 
-    notices : (image : Option Image) → Notices image holds None next → stop_found (Runs c next) ≡ None
-    notices None reads = reads_stopless holds None c next reads
-    notices (Some i) e = is stage.PeekChecksum refl e
+    notices : (image : Option Image) → Notices image holds None next → P next
+    notices None reads = by (lock_by holds None) reads
+    notices (Some i) e = is stage.PeekChecksum peek e
 
-    plain : (b : Bool) → IsFirstPlain b image holds next → stop_found (Runs c next) ≡ None
-    plain true e = is stage.LockExclusive refl e
+    plain : (b : Bool) → IsFirstPlain b image holds next → P next
+    plain true e = is stage.LockExclusive exclusive e
     plain false n = notices image n
 
-    go : (asked : Asked) → IsFirst image holds asked next → stop_found (Runs c next) ≡ None
-    go call.Hold e = is stage.Hold refl e
-    go call.Release e = is stage.Release refl e
+    go : (asked : Asked) → IsFirst image holds asked next → P next
+    go call.Hold e = is stage.Hold hold e
+    go call.Release e = is stage.Release release e
     go (call.Get key) f = plain (is_write (call.Get key) && (holds == 0)) f
     go (call.Put key value seconds) f = plain (is_write (call.Put key value seconds) && (holds == 0)) f
     go (call.Remove key) f = plain (is_write (call.Remove key) && (holds == 0)) f
@@ -202,9 +201,11 @@ first_stopless asked image holds c next first = go asked first
     go call.Disable f = plain (is_write call.Disable && (holds == 0)) f
     go call.Sync f = plain (is_write call.Sync && (holds == 0)) f
 
+-- at its begin a call has found no stop
 pub begun_stopless : (asked : Asked) (now n : ℕ) (old new : OpenerState) → Begins asked now n old new → stop_found new.work ≡ None
 begun_stopless asked now n old new begins =
-    ap (λ (x : OpenerState). stop_found x.work) begins.work ∙ first_stopless asked old.image old.holds (begun_at asked now n) begins.next begins.first
+    ap (λ (x : OpenerState). stop_found x.work) begins.work
+    ∙ first_at (λ next. stop_found (Runs (begun_at asked now n) next) ≡ None) refl refl refl refl refl (λ loading. refl) asked old.image old.holds begins.next begins.first
 
 none_found : (work : Work) (start : Region) (past : List Event) → stop_found work ≡ None → FoundIs work start past
 none_found Idle start past none = tt

@@ -7,11 +7,13 @@ use Rattle.std.specs.List.{AllByRecursion}
 use Rattle.std.specs.Option.{option_map_or}
 use Rattle.change_log.specs.declared.call.Answer.{Answer}
 use Rattle.lock_rules.specs.Locks.{IsLeastAgainst}
-use Rattle.opener.specs.Calls.{holds_after}
+use Rattle.opener.specs.Ends.{lock_by}
+use Rattle.opener.specs.Calls.{holds_after, kind_of}
 use Rattle.opener.specs.Adds.{AddsTo, Counts, IsRaised, IsRaisedIn, locks_taken, stores_in}
 use Rattle.opener.specs.Bound.{Falls, steps_left}
 use Rattle.opener.specs.Opener.{Tied, MakesOne, KeepsWork, KeepsCall, HasCause, HasStopped, OnAnswer, IsAnswer, IsAnswerOf, RunsOn, HasReason, IsAt, IsSeen, Owes, WorkIs, is_ended, is_storing, lock_in, stop_found}
 use Rattle.opener.specs.State.{OpenerState}
+use Rattle.opener.specs.Writes.{commits_of}
 use Rattle.opener.specs.declared.calls.Step.{Step}
 use Rattle.opener.specs.declared.calls.Step.TheVariants as step
 use Rattle.opener.specs.declared.calls.Stop.{Stop}
@@ -34,15 +36,17 @@ use Rattle.region_words.specs.declared.event.What.{What}
 use Rattle.world.specs.World.{IsSound, WorldState, share_of}
 use Rattle.world.specs.Moves.{Steps}
 use Rattle.mmkv_top.specs.Parts.{Running, going_on, is_lock, locks_among, stores_among}
+use Rattle.mmkv_top.proofs.Barred.{free_to_try, tried_at}
 use Rattle.mmkv_top.proofs.Counting.{count_goes_on, own_locks, stores_of_own}
-use Rattle.mmkv_top.specs.Played.{AsksFor, IsAnsweredBy, IsTooFull}
+use Rattle.mmkv_top.specs.Played.{AsksFor, IsAnsweredBy, IsBlockedBy, IsTooFull}
 use Rattle.region_words.proofs.ReadLaws.{changes_more}
 use Rattle.region_words.proofs.StaysFirm.{file_grows}
 use Rattle.mmkv_top.proofs.Reasoning.{found_later, going_found, holds_of_same, idle_found, stopped_holds}
 use Rattle.mmkv_top.proofs.NoPlaces.{Reserver, alone_asks, at_stop, found_none, reason_now, too_full}
+use Rattle.mmkv_top.proofs.Marking.{commits_few, step_marked}
 use Rattle.mmkv_top.proofs.Storing.{step_stored}
 use Rattle.mmkv_top.proofs.Seeing.{going_saw, saw_still, stopped_saw}
-use Rattle.mmkv_top.specs.Progress.{FoundIs, FoundSaw, HasStored, IsOpenTo, IsUnfull, MetFull, StoppedFull, StoppedIs, StoppedSaw, LeavesFewer, Follows, FollowsWork, CameTo, Stepped, seat_at}
+use Rattle.mmkv_top.specs.Progress.{FoundIs, FoundSaw, HasMarked, HasStored, IsOpenTo, IsUnfull, MetFull, StoppedFull, StoppedIs, StoppedSaw, LeavesFewer, Follows, FollowsWork, CameTo, Stepped, seat_at}
 
 -- what a call on the seat made
 pub record Moved (s t : Seated) : Type 0 where
@@ -172,20 +176,38 @@ answered a by who c r own start past loads stores locks one few of_stores of_loc
     }
 
 -- what a step of a call that runs comes to
-module _ (who : ℕ) (s t : Seated) (seat : t.who ≡ who) (steady : s.region.failing.listed ≡ []) where
+module _ (who : ℕ) (s t : Seated) (seat : t.who ≡ who) (steady : s.region.failing.listed ≡ []) (lawful : Lawful t.region.start t.region.past) where
   call_came : (o o' : OpenerState) (c : Call) (at : Stage) (r : Running) (own : List Event) (held : ℕ) (result : Step) → o.who ≡ who → o.holds ≡ held →
-      IsAt o (Runs c at) → Follows c r → Counted c own result o'.work → KeepsCall o.who o.holds c result o' →
+      IsAt o (Runs c at) → (seat_state s).holds ≡ lock_in o.holds (Runs c at) → Follows c r → Counted c own result o'.work → KeepsCall o.who o.holds c result o' →
       HasCause (Runs c at) result o'.work (seat_state s) (seat_state t) →
       OnAnswer result (λ a. IsAnswer a t.region.start t.region.past) → CameTo who t.region.past held (Some (going_on own r)) result o'
-  call_came o o' c at r own held step.Idle one same is follows n keeps cause answer = absurd keeps
-  call_came o o' c at r own held step.Going one same is follows n keeps cause answer =
+  call_came o o' c at r own held step.Idle one same is holds follows n keeps cause answer = absurd keeps
+  call_came o o' c at r own held step.Going one same is holds follows n keeps cause answer =
       (runs_on c r own n.loads n.stores n.locks o'.work n.few n.stores_are n.locks_are follows keeps.0 n.counts, keeps.1 ∙ same)
-  call_came o o' c at r own held step.Again one same is follows n keeps cause answer = let t : true ≡ false = cause.0.takes_turns in absurd cc
-  call_came o o' c at r own held (step.Blocked holder) one same is follows n keeps cause answer =
-      (runs_on c r own n.loads n.stores n.locks o'.work n.few n.stores_are n.locks_are follows keeps.0 n.counts, keeps.1 ∙ same, (cause.0, subst (λ w. IsLeastAgainst (locks_after t.region.past) w cause.0 holder) seat cause.2.1))
-  call_came o o' c at r own held (step.Answered a) one same is follows n keeps cause answer =
+  call_came o o' c at r own held step.Again one same is holds follows n keeps cause answer = let t : true ≡ false = cause.0.takes_turns in absurd cc
+  call_came o o' c at r own held (step.Blocked holder) one same is holds follows n keeps cause answer =
+      (runs_on c r own n.loads n.stores n.locks o'.work n.few n.stores_are n.locks_are follows keeps.0 n.counts, keeps.1 ∙ same, blocked)
+    where
+      tried : (kind_of c.call ≡ Some cause.0) × (c.taken ≡ None)
+      tried = tried_at o c at cause.0 cause.1 is
+
+      least : IsLeastAgainst (locks_after t.region.past) who cause.0 holder
+      least = subst (λ w. IsLeastAgainst (locks_after t.region.past) w cause.0 holder) seat cause.2.1
+
+      still : lock_after t.region.past who ≡ lock_by o.holds None
+      still = ap (lock_after t.region.past) (sym seat) ∙ cause.2.0.after.holds ∙ holds ∙ ap (lock_by o.holds) tried.1
+
+      blocked : IsBlockedBy t.region.past (going_on own r) who holder
+      blocked =
+          record {
+            kind = cause.0;
+            tries = ap kind_of (sym follows.call) ∙ tried.0;
+            free = free_to_try t.region.start t.region.past who cause.0 holder o.holds lawful least still;
+            least = least;
+          }
+  call_came o o' c at r own held (step.Answered a) one same is holds follows n keeps cause answer =
       (keeps.1, keeps.2 ∙ ap (λ x. holds_after x o.holds) follows.call ∙ ap (holds_after r.call) same, answered a o.who who c r own t.region.start t.region.past n.loads n.stores n.locks one n.few n.stores_are n.locks_are n.counts follows keeps.0 answer)
-  call_came o o' c at r own held (step.Stopped why) one same is follows n keeps cause answer = stopped why keeps cause
+  call_came o o' c at r own held (step.Stopped why) one same is holds follows n keeps cause answer = stopped why keeps cause
     where
       stopped : (why : Stop) → KeepsCall o.who o.holds c (step.Stopped why) o' → HasCause (Runs c at) (step.Stopped why) o'.work (seat_state s) (seat_state t) →
           (o'.work ≡ Idle) × (o'.holds ≡ held)
@@ -202,16 +224,16 @@ module _ (who : ℕ) (s t : Seated) (seat : t.who ≡ who) (steady : s.region.fa
 
   -- what a step comes to
   step_came : (o o' : OpenerState) (work : Work) (r : Option Running) (own : List Event) (held : ℕ) (result : Step) → o.who ≡ who → o.holds ≡ held →
-      IsAt o work → FollowsWork work r → CountedAt work own result o'.work → KeepsWork (record o { work = work }) result o' →
+      IsAt o work → (seat_state s).holds ≡ lock_in o.holds work → FollowsWork work r → CountedAt work own result o'.work → KeepsWork (record o { work = work }) result o' →
       HasCause work result o'.work (seat_state s) (seat_state t) →
       OnAnswer result (λ a. IsAnswer a t.region.start t.region.past) → CameTo who t.region.past held (option_map (going_on own) r) result o'
-  step_came o o' Idle None own held result one same is follows n keeps cause answer =
+  step_came o o' Idle None own held result one same is holds follows n keeps cause answer =
       subst (λ x. CameTo who t.region.past held None x o') (sym keeps.0) (subst (λ (x : OpenerState). FollowsWork x.work None × (x.holds ≡ held)) (sym keeps.1) (tt, same))
-  step_came o o' Idle (Some r) own held result one same is follows n keeps cause answer = absurd follows
-  step_came o o' Ended None own held result one same is follows n keeps cause answer = absurd follows
-  step_came o o' Ended (Some r) own held result one same is follows n keeps cause answer = absurd follows
-  step_came o o' (Runs c at) None own held result one same is follows n keeps cause answer = absurd follows
-  step_came o o' (Runs c at) (Some r) own held result one same is follows n keeps cause answer = call_came o o' c at r own held result one same is follows n keeps cause answer
+  step_came o o' Idle (Some r) own held result one same is holds follows n keeps cause answer = absurd follows
+  step_came o o' Ended None own held result one same is holds follows n keeps cause answer = absurd follows
+  step_came o o' Ended (Some r) own held result one same is holds follows n keeps cause answer = absurd follows
+  step_came o o' (Runs c at) None own held result one same is holds follows n keeps cause answer = absurd follows
+  step_came o o' (Runs c at) (Some r) own held result one same is holds follows n keeps cause answer = call_came o o' c at r own held result one same is holds follows n keeps cause answer
 
 pub follows_alive : (work : Work) (r : Option Running) → FollowsWork work r → is_ended work ≡ false
 follows_alive Idle r h = refl
@@ -437,6 +459,15 @@ stores_made who s t one makes own is =
     let events : made_by s.who own ≡ made_by s.who m.own = append_cancel_right (made_by s.who own) (made_by s.who m.own) s.region.past (is ∙ m.past) in
     sym (stores_of_own s.who own ∙ ap stores_among events ∙ ap (λ w. stores_among (made_by w m.own)) one)
 
+-- and so are its marks
+commits_made : (who : ℕ) (s t : Seated) → s.who ≡ who → (makes : MakesOne (seat_state s) (seat_state t)) (own : List What) → made_by s.who own ++ s.region.past ≡ t.region.past →
+    commits_of own ≡ changes_of (made_by who (moved s t makes).own)
+commits_made who s t one makes own is =
+    let m = moved s t makes in
+    let events : made_by s.who own ≡ made_by s.who m.own = append_cancel_right (made_by s.who own) (made_by s.who m.own) s.region.past (is ∙ m.past) in
+    let few : length own ≤ 1 = omega (arith, m.few, ap length events, length-map own (event_by s.who), length-map m.own (event_by s.who)) in
+    commits_few s.who own few ∙ ap changes_of events ∙ ap (λ w. changes_of (made_by w m.own)) one
+
 -- One step more.
 module _ (who opened : ℕ) (start : Region) (past : List Event) (held : ℕ) (before : Option Running) (first : Work) (n : ℕ) (made : List Event) (o o' : OpenerState) (old new : WorldState) (result : Step)
     (sound : IsSound new) (all : opened ≡ length new.openers) (st : Stepped who opened start past held before first n step.Going made o (seat_at who old.region))
@@ -467,7 +498,7 @@ module _ (who opened : ℕ) (start : Region) (past : List Event) (held : ℕ) (b
 
   came : CameTo who t.region.past held goes_by result o'
   came =
-      step_came who s t refl st.steady o o' o.work (option_map (going_on made) before) own held result st.number st.came.1 tied.at st.came.0
+      step_came who s t refl st.steady tied'.told.agrees.lawful o o' o.work (option_map (going_on made) before) own held result st.number st.came.1 tied.at tied.holds st.came.0
       (counted_at who s t refl steps.makes tied'.told.agrees.lawful result o.work o'.work adds) steps.call steps.cause steps.answer
 
   alive : has_died (own ++ s.region.past) who ≡ false
@@ -559,6 +590,8 @@ module _ (who opened : ℕ) (start : Region) (past : List Event) (held : ℕ) (b
         unfull = over_work who IsUnfull o.work t.region.past held goes_by result o' (seat_state t) (λ e. absurd cc) st.unfull unfull came steps.falls;
         stored = subst (HasStored result o'.work) (going_twice own made before)
             (step_stored who s t o.work o'.work result (option_map (going_on made) before) own st.came.0 adds (λ whats is. stores_made who s t refl steps.makes whats is) st.stored);
+        marked = subst (HasMarked who result o'.work) (going_twice own made before)
+            (step_marked who s t o.work o'.work result (option_map (going_on made) before) own st.came.0 adds (λ whats is. commits_made who s t refl steps.makes whats is) st.marked);
         full = step_full (n + 1) (omega arith) goes_by result refl came;
       }
 
@@ -593,6 +626,7 @@ at_most who opened start past held before first n count result made o s below al
       unfull = st.unfull;
       full = met_by result st.full;
       stored = st.stored;
+      marked = st.marked;
     }
   where
     met_by : (last : Step) → StoppedFull who opened last start past before n → StoppedFull who opened last start past before count

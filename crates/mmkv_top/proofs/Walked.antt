@@ -3,7 +3,7 @@ use Rattle.std.proofs.Common.{◌≡◌, ◌≢◌, ℕ, zero, suc, ◌+◌, ◌
 use Rattle.std.proofs.lemmas.Bool.Decides.{eqb_tells, nat_tests}
 use Rattle.std.proofs.lemmas.List.{length-set}
 use Rattle.std.proofs.lemmas.List.Concat.{flat_map-append}
-use Rattle.std.specs.Prelude.{Option, Some, None, IfErr, IsTrue, OnOk, Result, Ok, Err, flat_map, nat_le, option_map, slice_get, ◌&&◌, ◌==◌}
+use Rattle.std.specs.Prelude.{All, Option, Some, None, IfErr, IsTrue, OnOk, Result, Ok, Err, flat_map, nat_le, option_map, slice_get, ◌&&◌, ◌==◌}
 use Rattle.std.specs.List.{AllByRecursion}
 use Rattle.change_log.specs.Settled.{AreEndedBy}
 use Rattle.handlers.specs.declared.handler.Strategy.{Strategy}
@@ -28,18 +28,28 @@ use Rattle.world.specs.Moves.{IsSaid}
 use Rattle.world.specs.declared.moves.Moved.{Moved}
 use Rattle.world.specs.declared.moves.Moved.TheVariants as moved
 use Rattle.world.proofs.Numbered.{set_elsewhere, set_is}
+use Rattle.world.proofs.Turns.{holds_exclusive}
+use Rattle.std.proofs.lemmas.Bool.{cases_lt}
+use Rattle.std.proofs.lemmas.List.Elements.{All-nil}
+use Rattle.change_log.specs.declared.change.Change.{Change}
+use Rattle.lock_rules.specs.declared.table.LockKind.TheVariants.{Exclusive}
+use Rattle.opener.specs.Opener.{Tied}
+use Rattle.region_words.specs.Local.{lock_after}
+use Rattle.world.specs.World.{share_of}
+use Rattle.mmkv_top.proofs.Marking.{line_marked, line_marks, none_marked, own_marks}
+use Rattle.mmkv_top.proofs.Stepping.{follows_alive}
 use Rattle.mmkv_top.specs.State.{PlayState}
 use Rattle.mmkv_top.specs.declared.halt.Halt.{Halt}
 use Rattle.mmkv_top.specs.declared.halt.Halt.TheVariants as halt
 use Rattle.mmkv_top.specs.Parts.{Part, answers_in, asked_of, going_on, holds_of, listed, lives as living, outcomes_of, past_of, running, Running, strategies}
 use Rattle.mmkv_top.specs.Play.{AreAnswered, CanTake}
 use Rattle.mmkv_top.specs.Played.{MetFullJournal, MetNoImage, Stock, drawn, places_after, stocked}
-use Rattle.mmkv_top.specs.Progress.{AreEarlier, CameTo, FollowsWork, FoundIs, FoundSaw, HaltsBy, HasHalted, HasStored, IsAt, IsNobody, IsOpenTo, IsOpened, IsTextOf, IsUnopened, IsUnsaid, LeavesFewer, MetFull, Notes, SawNoImage, StopSaw, StoppedFull, StoppedIs, StoppedSaw, Stepped, Takes, TakesOne, Walks, seat_at}
+use Rattle.mmkv_top.specs.Progress.{AreEarlier, CameTo, FollowsWork, FoundIs, FoundSaw, HaltsBy, HasHalted, HasMarked, HasStored, IsAt, IsNobody, IsOpenTo, IsOpened, IsTextOf, IsUnopened, IsUnsaid, LeavesFewer, MetFull, Notes, SawNoImage, StopSaw, StoppedFull, StoppedIs, StoppedSaw, Stepped, Takes, TakesOne, Walks, seat_at}
 use Rattle.mmkv_top.proofs.Histories.{history_of}
 use Rattle.mmkv_top.proofs.Answering.{earlier_on}
 use Rattle.mmkv_top.proofs.InTime.{in_time, line_bounded}
 use Rattle.mmkv_top.proofs.LineEnds.{EndsLine, LineEnds, Outcomes, answers_join, is_step_line, line_ends, listed_answers, outcome_is, own_outcome, said_stopped}
-use Rattle.mmkv_top.proofs.NoPlaces.{roomy}
+use Rattle.mmkv_top.proofs.NoPlaces.{opener_there, roomy}
 use Rattle.mmkv_top.proofs.Others.{going_none, opened_other, running_own, unopened_other}
 use Rattle.mmkv_top.proofs.Reasoning.{is_reasoned}
 use Rattle.mmkv_top.proofs.Storing.{line_stored}
@@ -84,8 +94,25 @@ IsRoomy opened past = length past + places_after opened past ≤ most_events
 pub opened_at : (stock left : Stock) (start : Region) (parts : List Part) (p : PlayState) (who : ℕ) (o : OpenerState) → IsAt stock left start parts p → Lives p.world.openers who o → IsOpened start parts who o
 opened_at stock left start parts p who o at lives = let is : (who - 1) + 1 ≡ who = omega (arith, lives.numbered) in subst (λ w. IsOpened start parts w o) is (at.openers (who - 1) o lives.there)
 
+-- an opener with a hold has the lock for itself
+holds_lock : (stock left : Stock) (start : Region) (parts : List Part) (p : PlayState) → IsSound p.world → IsAt stock left start parts p → (who : ℕ) → 0 < holds_of who parts → lock_after (past_of parts) who ≡ Some Exclusive
+holds_lock stock left start parts p sound at who some = go (cases_lt 0 who) (cases_lt (length (strategies parts)) who)
+  where
+    nobody : IsNobody (length (strategies parts)) who → lock_after (past_of parts) who ≡ Some Exclusive
+    nobody is = absurd (omega (arith, some, (at.unopened who is).held))
+
+    go : (0 < who) ⊎ (who ≤ 0) → (length (strategies parts) < who) ⊎ (who ≤ length (strategies parts)) → lock_after (past_of parts) who ≡ Some Exclusive
+    go (inr none) most = nobody (inl (omega (arith, none)))
+    go (inl least) (inl far) = nobody (inr far)
+    go (inl least) (inr within) =
+        let there = opener_there p.world.openers (who - 1) (omega (arith, least, within, at.count)) in
+        let is : who - 1 + 1 ≡ who = omega (arith, least) in
+        let op : IsOpened start parts who there.0 = subst (λ w. IsOpened start parts w there.0) is (at.openers (who - 1) there.0 there.1) in
+        let tied : Tied there.0 (share_of p.world.region who) = subst (λ w. Tied there.0 (share_of p.world.region w)) is (sound.each (who - 1) there.0 there.1).tied in
+        ap (λ past. lock_after past who) (sym at.past) ∙ tied.holds ∙ holds_exclusive there.0 there.0.work refl (follows_alive there.0.work (running who parts) op.follows) (omega (arith, some, op.holds))
+
 module _ (stock left : Stock) (start : Region) (parts : List Part) (p q : PlayState) (who count : ℕ) (o : OpenerState) (said : Moved)
-    (at : IsAt stock left start parts p) (lives : Lives p.world.openers who o) (op : IsOpened start parts who o) (sound : IsSound q.world)
+    (at : IsAt stock left start parts p) (before : IsSound p.world) (lives : Lives p.world.openers who o) (op : IsOpened start parts who o) (sound : IsSound q.world)
     (walks : Walks who (length (strategies parts)) start (past_of parts) (holds_of who parts) (running who parts) o.work count said p.world q.world) where
   abbrev st : Stepped who (length (strategies parts)) start (past_of parts) (holds_of who parts) (running who parts) o.work count walks.came walks.made walks.next (seat_at who q.world.region)
   st = walks.stepped
@@ -147,6 +174,8 @@ module _ (stock left : Stock) (start : Region) (parts : List Part) (p q : PlaySt
           found = here (FoundIs walks.next.work) st.found;
           saw = here (FoundSaw walks.next.work) st.saw;
           unfull = st.unfull;
+          marked = subst (HasMarked who step.Going walks.next.work) (sym same)
+              (line_marked who all (holds_of who parts) (option_map (going_on walks.made) (running who parts)) walks.came walks.next ended.outcome came ended.at st.marked);
           stored = subst (HasStored step.Going walks.next.work) (sym same)
               (line_stored who all (holds_of who parts) (option_map (going_on walks.made) (running who parts)) walks.came walks.next ended.outcome came ended.at st.stored);
         }
@@ -175,6 +204,12 @@ module _ (stock left : Stock) (start : Region) (parts : List Part) (p q : PlaySt
         apart (inl none) e = absurd (omega (arith, inside, e, none))
         apart (inr far) e = absurd (omega (arith, below, e, far))
 
+    -- nobody else's change is marked under a hold
+    line_held : (v : ℕ) → 0 < holds_of v parts → ((eqb who v ≡ true) × (who ≡ v)) ⊎ ((eqb who v ≡ false) × (who ≢ v)) → All (λ c. c.maker ≡ v) (changes_of walks.made)
+    line_held v some (inl same) = subst (λ w. All (λ c. c.maker ≡ w) (changes_of walks.made)) same.1 (own_marks start walks.made (past_of parts) who lawful st.own)
+    line_held v some (inr apart) =
+        subst (All (λ c. c.maker ≡ v)) (sym (none_marked start walks.made (past_of parts) who v lawful apart.1 st.own (holds_lock stock left start parts p before at v some))) (All-nil (λ (c : Change). c.maker ≡ v))
+
     same_strategies : strategies (record { line = Some (StepLine who count); made = walks.made; outcome = ended.outcome } ∷ parts) ≡ strategies parts
     same_strategies = append-nil (strategies parts)
 
@@ -197,8 +232,14 @@ module _ (stock left : Stock) (start : Region) (parts : List Part) (p q : PlaySt
         live = subst NoneDies st.past_is st.live;
         each = (
           at.each,
-          (lives_in parts p.world.openers who o at.count at.live lives, is_step_line who (past_of parts) walks.made count (running who parts) ended.outcome st.few st.own st.idle ends.ends),
+          (
+            lives_in parts p.world.openers who o at.count at.live lives,
+            is_step_line who (past_of parts) walks.made count (running who parts) ended.outcome st.few st.own st.idle ends.ends
+                (line_marks who all walks.made (holds_of who parts) (running who parts) walks.came walks.next ended.outcome came ended.at st.marked),
+          ),
         );
+        playable = (at.playable, tt);
+        held = (at.held, λ v some. line_held v some (eqb_tells who v));
         in_time = (
           at.in_time,
           in_time start grown q.world.openers each_opened (λ v is. nobody_else v (subst (λ n. IsNobody n v) count_now is)),
@@ -302,6 +343,7 @@ first_step stock left start parts p who o sound at lives =
       unfull = op.unfull;
       full = tt;
       stored = subst (HasStored step.Going o.work) (sym (going_none (running who parts))) op.stored;
+      marked = subst (HasMarked who step.Going o.work) (sym (going_none (running who parts))) op.marked;
     }
 
 -- what comes of a line of steps that were walked
@@ -317,7 +359,7 @@ module _ (stock left : Stock) (start : Region) (parts : List Part) (p : PlayStat
       OnOk result (Notes who q.world.answers said p.text q.text) → IfErr result (HaltsBy said) → Takes stock left start parts (Some (StepLine who count)) q result
   takes_line q said result after walks notes err =
       let walked = walks start (past_of parts) (holds_of who parts) (running who parts) begins in
-      takes_steps stock left start parts p q who count o said at lives (opened_at stock left start parts p who o at lives) after
+      takes_steps stock left start parts p q who count o said at sound lives (opened_at stock left start parts p who o at lives) after
       (subst (λ n. Walks who n start (past_of parts) (holds_of who parts) (running who parts) o.work count said p.world q.world) at.count walked) result notes err
 
   pub halts_line : (why : Halt) → why ≡ halt.JournalFull →

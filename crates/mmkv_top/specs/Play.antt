@@ -19,7 +19,7 @@ use Rattle.mmkv_top.specs.declared.limits.TheConstants.{LARGEST_COUNT, LARGEST_L
 use Rattle.mmkv_top.specs.declared.ending.Ending.{Ending}
 use Rattle.mmkv_top.specs.Ending.{ending}
 use Rattle.mmkv_top.specs.Parts.{Part, lines_of, past_of, outcomes_of, answers_in, strategies, Running, running, asked_of}
-use Rattle.mmkv_top.specs.Played.{Stock, MayCome, ArePlayed, AreReasoned, AreRoomy, MeetsFullJournal, MeetsNoImage}
+use Rattle.mmkv_top.specs.Played.{Stock, MayCome, AreHeld, ArePlayed, AreReasoned, AreRoomy, MeetsFullJournal, MeetsNoImage}
 
 -- a line without its line feed
 abbrev pub without_feed : List ℕ → List ℕ
@@ -51,6 +51,15 @@ IsPlayable (Begin who now call) = IsBuilt call
 IsPlayable (Step who count) = ⊤
 IsPlayable (Die who bits) = ⊥
 IsPlayable (Next who now call) = ⊥
+
+-- each line is one of those that are taken so far
+abbrev pub IsPlayableLine : Option Line → Type 0
+IsPlayableLine None = ⊤
+IsPlayableLine (Some l) = IsPlayable l
+
+abbrev pub ArePlayable : List Part → Type 0
+ArePlayable [] = ⊤
+ArePlayable (p ∷ parts) = ArePlayable parts × IsPlayableLine p.line
 
 -- a line that names nothing can always be taken
 abbrev pub CanTake : Stock → List Part → Option Line → Type 0
@@ -85,12 +94,15 @@ abbrev pub AreHistories : Region → List Part → Type 0
 AreHistories start [] = ⊤
 AreHistories start (p ∷ parts) = AreHistories start parts × IsHistory start (p ∷ parts)
 
--- a journal of these parts, which is lawful and in which the answers stand; after each line changes and answers are one legal history
+-- a journal of these parts, which is lawful and in which the answers stand; after each line changes and answers are one legal history, and
+-- through each line the holds are kept
 pub record IsJournal (stock : Stock) (start : Region) (parts : List Part) : Type 0 where
   pub each : ArePlayed stock parts
+  pub playable : ArePlayable parts
   pub lawful : Lawful start (past_of parts)
   pub in_time : AreInTime start parts
   pub reasoned : AreReasoned start parts
+  pub held : AreHeld parts
   pub roomy : AreRoomy parts
   pub answers : AreAnswered start (past_of parts) (answers_in (outcomes_of parts))
   pub histories : AreHistories start parts

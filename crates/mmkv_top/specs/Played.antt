@@ -1,5 +1,6 @@
 -- A script that was played: what each line may make. Parts and events stand with the latest first.
-use Rattle.std.specs.Prelude.{◌≡◌, ◌≢◌, ℕ, ◌+◌, ◌<◌, ◌≤◌, ◌⊎◌, Bool, true, false, List, [], ◌∷◌, ◌++◌, Option, Some, None, length, filter, nat_le, ◌&&◌, IsTrue, ⊤}
+use Rattle.std.specs.Prelude.{All, ◌≡◌, ◌≢◌, ℕ, ◌+◌, ◌<◌, ◌≤◌, ◌⊎◌, Bool, true, false, List, [], ◌∷◌, ◌++◌, Option, Some, None, length, filter, nat_le, ◌&&◌, IsTrue, ⊤}
+use Rattle.change_log.specs.Settled.{AreBegun, AreOfCall}
 use Rattle.change_log.specs.declared.call.Answer.{Answer}
 use Rattle.change_log.specs.declared.call.Call.{Call}
 use Rattle.handlers.specs.declared.handler.Strategy.{Strategy}
@@ -10,6 +11,7 @@ use Rattle.lock_rules.specs.declared.table.LockKind.{LockKind}
 use Rattle.lock_rules.specs.declared.table.LockKind.TheVariants.{Exclusive}
 use Rattle.meta_record.specs.declared.shown.Shown.TheVariants.{Whole}
 use Rattle.opener.specs.Begins.{call_refusal}
+use Rattle.opener.specs.Calls.{is_write, kind_of}
 use Rattle.opener.specs.Counted.{counted}
 use Rattle.opener.specs.Opener.{image_at}
 use Rattle.opener.specs.Plans.{IsPlanOf, events_in, refusal_of}
@@ -108,19 +110,35 @@ pub record WasRefused (why : Stop) (asked : Call) (now begun : ℕ) (start : Reg
   pub since : begun ≤ length (changes_of earlier)
   pub first : IsAccepted start → Apart start earlier → refusal_of asked now (standing (region_after start earlier)) (map_after start earlier) ≡ Some why
 
+-- The last step of a call tried for a lock of the kind that the call takes, which this opener holds nothing of, and this is the least holder
+-- that stands against it.
+pub record IsBlockedBy (past : List Event) (c : Running) (who holder : ℕ) : Type 0 where
+  pub kind : LockKind
+  pub tries : kind_of c.call ≡ Some kind
+  pub free : lock_of (locks_after past) who ≡ None
+  pub least : IsLeastAgainst (locks_after past) who kind holder
+
 -- what ends a step line of a running call: it goes on, is answered, waits for the least holder that stands against its try, or is stopped and
 -- has stored nothing
 abbrev pub IsOutcomeOf : List Event → Running → ℕ → Option Outcome → Type 0
 IsOutcomeOf past c who None = ⊤
 IsOutcomeOf past c who (Some (Answered a)) = IsAnsweredBy past c who a
-IsOutcomeOf past c who (Some (Blocked w holder)) = (w ≡ who) × ((kind : LockKind) × IsLeastAgainst (locks_after past) who kind holder)
+IsOutcomeOf past c who (Some (Blocked w holder)) = (w ≡ who) × IsBlockedBy past c who holder
 IsOutcomeOf past c who (Some (Stopped w why)) = (w ≡ who) × IsPrinted why × (stores_among c.since ≡ 0)
+
+-- what a call has changed since it began: all that it makes, where it is answered; nothing, where it is stopped; and else the first part of
+-- what it makes, or all
+abbrev pub AreMarks : ℕ → Running → Option Outcome → Type 0
+AreMarks who c (Some (Answered a)) = AreOfCall who c.call c.now (changes_of c.since)
+AreMarks who c (Some (Stopped w why)) = changes_of c.since ≡ []
+AreMarks who c _ = AreBegun who c.call c.now (changes_of c.since)
 
 -- the part of a step line of a running call
 pub record StepsOf (past : List Event) (who count : ℕ) (c : Running) (made : List Event) (outcome : Option Outcome) : Type 0 where
   pub few : length made ≤ count
   pub own : AreSteps who made
   pub ends : IsOutcomeOf (made ++ past) (going_on made c) who outcome
+  pub marks : AreMarks who (going_on made c) outcome
 
 -- without a running call nothing is made
 abbrev pub IsStepLine : List Event → ℕ → ℕ → Option Running → List Event → Option Outcome → Type 0
@@ -136,6 +154,15 @@ Makes parts _ made outcome = (made ≡ []) × (outcome ≡ None)
 abbrev pub IsPartOf : Stock → List Part → Option Line → List Event → Option Outcome → Type 0
 IsPartOf stock parts None made outcome = (made ≡ []) × (outcome ≡ None)
 IsPartOf stock parts (Some l) made outcome = MayCome stock parts l × Makes parts l made outcome
+
+-- from the answer of a hold to the last release nobody else's change is marked
+abbrev pub IsHeld : Part → List Part → Type 0
+IsHeld p parts = (who : ℕ) → 0 < holds_of who parts → All (λ c. c.maker ≡ who) (changes_of p.made)
+
+-- at each line
+abbrev pub AreHeld : List Part → Type 0
+AreHeld [] = ⊤
+AreHeld (p ∷ parts) = AreHeld parts × IsHeld p parts
 
 -- where the line's call was stopped, its write was refused for the reason that is printed
 abbrev pub IsReasoned : Region → Part → List Part → Type 0
@@ -162,12 +189,12 @@ places_after opened past = places_kept (λ who. nat_le 1 who && nat_le who opene
 abbrev pub IsTooFull : ℕ → List Event → ℕ → Type 0
 IsTooFull opened past asked = most_events < length past + places_after opened past + asked
 
--- after these events a call asks for so many places: two for a lock that it may take; or, under the exclusive lock, one for each event of the
--- rows that it makes
+-- after these events a call asks for so many places: two for a lock of the kind that it takes, which it may take; or, where it is a write that
+-- holds exclusive, one for each event of the rows that it makes
 abbrev pub AsksFor : Region → ℕ → Running → List Event → ℕ → Type 0
 AsksFor start who c past asked =
-    ((asked ≡ 2) × ((kind : LockKind) × MayTake (locks_after past) who kind))
-    ⊎ ((lock_of (locks_after past) who ≡ Some Exclusive)
+    ((asked ≡ 2) × ((kind : LockKind) × (kind_of c.call ≡ Some kind) × MayTake (locks_after past) who kind))
+    ⊎ ((lock_of (locks_after past) who ≡ Some Exclusive) × (is_write c.call ≡ true)
     × ((plan : Plan) × (asked ≡ events_in plan) × (IsAccepted start → Apart start past → IsPlanOf who c.call c.now (image_at start past) plan)))
 
 -- after some events of a step line its call asked for places that the journal hadn't

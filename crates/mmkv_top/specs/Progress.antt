@@ -4,9 +4,7 @@ use Rattle.change_log.specs.Settled.{AreEndedBy}
 use Rattle.change_log.specs.declared.call.Answer.{Answer}
 use Rattle.change_log.specs.declared.call.Call.{Call as Asked}
 use Rattle.handlers.specs.declared.handler.Strategy.{Strategy}
-use Rattle.lock_rules.specs.Locks.{IsLeastAgainst}
-use Rattle.lock_rules.specs.declared.table.LockKind.{LockKind}
-use Rattle.opener.specs.Adds.{AreStoredBy}
+use Rattle.opener.specs.Adds.{AreMadeBy, AreStoredBy}
 use Rattle.opener.specs.Bound.{steps_left}
 use Rattle.opener.specs.Counted.{counted}
 use Rattle.opener.specs.Calls.{holds_after}
@@ -25,7 +23,7 @@ use Rattle.opener.specs.declared.work.Work.TheVariants.{Idle, Runs}
 use Rattle.meta_record.specs.declared.shown.Shown.TheVariants.{Whole}
 use Rattle.region_words.specs.Apart.{Apart}
 use Rattle.region_words.specs.Region.{Region, file_size, shown}
-use Rattle.region_words.specs.Past.{AreSteps, NoneDies, changes_of, locks_after, region_after}
+use Rattle.region_words.specs.Past.{AreSteps, NoneDies, changes_of, region_after}
 use Rattle.region_words.specs.Local.{Local, Seated, account_of}
 use Rattle.region_words.specs.declared.event.Event.{Event}
 use Rattle.region_words.specs.declared.event.What.{What}
@@ -46,8 +44,8 @@ use Rattle.mmkv_top.specs.State.{PlayState}
 use Rattle.mmkv_top.specs.Ending.{ending}
 use Rattle.mmkv_top.specs.declared.ending.Ending.{Ending}
 use Rattle.mmkv_top.specs.Parts.{Part, lines_of, past_of, outcomes_of, answers_in, listed, strategies, holds_of, asked_of, locks_among, stores_among, Running, running, going_on}
-use Rattle.mmkv_top.specs.Played.{Stock, stocked, drawn, ArePlayed, AreReasoned, AreRoomy, MeetsFullJournal, MeetsNoImage, AsksFor, IsTooFull, IsAnsweredBy, WasRefused, reason_said}
-use Rattle.mmkv_top.specs.Play.{AreAnswered, AreHistories, AreInTime, IsWithin, AreLines, CanTake, IsFirstRefused, IsHalted, IsRefusedIn, not_yet}
+use Rattle.mmkv_top.specs.Played.{Stock, stocked, drawn, AreHeld, ArePlayed, AreReasoned, AreRoomy, MeetsFullJournal, MeetsNoImage, AsksFor, IsTooFull, IsAnsweredBy, IsBlockedBy, WasRefused, reason_said}
+use Rattle.mmkv_top.specs.Play.{AreAnswered, AreHistories, AreInTime, ArePlayable, IsWithin, AreLines, CanTake, IsFirstRefused, IsHalted, IsRefusedIn, not_yet}
 
 -- the opener runs this call
 pub record Follows (c : Call) (r : Running) : Type 0 where
@@ -68,7 +66,7 @@ abbrev pub CameTo : ℕ → List Event → ℕ → Option Running → Step → O
 CameTo who past held r step.Going o = FollowsWork o.work r × (o.holds ≡ held)
 CameTo who past held None step.Idle o = FollowsWork o.work None × (o.holds ≡ held)
 CameTo who past held (Some r) (step.Blocked holder) o =
-    FollowsWork o.work (Some r) × (o.holds ≡ held) × ((kind : LockKind) × IsLeastAgainst (locks_after past) who kind holder)
+    FollowsWork o.work (Some r) × (o.holds ≡ held) × IsBlockedBy past r who holder
 CameTo who past held (Some r) (step.Answered a) o = (o.work ≡ Idle) × (o.holds ≡ holds_after r.call held) × IsAnsweredBy past r who a
 CameTo who past held (Some r) (step.Stopped why) o = (o.work ≡ Idle) × (o.holds ≡ held)
 CameTo who past held _ _ o = ⊥
@@ -149,6 +147,11 @@ abbrev pub HasStored : Step → Work → Option Running → Type 0
 HasStored last work None = ⊤
 HasStored last work (Some r) = (stored : List What) × (stores_among r.since ≤ length stored) × AreStoredBy last work stored
 
+-- what the call that runs has changed, once a step came to this
+abbrev pub HasMarked : ℕ → Step → Work → Option Running → Type 0
+HasMarked who last work None = ⊤
+HasMarked who last work (Some r) = (c : Call) × (c.call ≡ r.call) × (c.now ≡ r.now) × AreMadeBy who c last work (changes_of r.since)
+
 -- So many steps of an opener, which was at this work, were made at most, the last of them came to this, and these are their events. So many
 -- openers were opened.
 pub record Stepped (who opened : ℕ) (start : Region) (past : List Event) (held : ℕ) (before : Option Running) (first : Work) (count : ℕ) (last : Step) (made : List Event) (o : OpenerState) (s : Seated) : Type 0 where
@@ -172,6 +175,7 @@ pub record Stepped (who opened : ℕ) (start : Region) (past : List Event) (held
   pub unfull : IsUnfull o.work
   pub full : StoppedFull who opened last start past before count
   pub stored : HasStored last o.work (option_map (going_on made) before)
+  pub marked : HasMarked who last o.work (option_map (going_on made) before)
 
 -- a step of an opener came to this and left it so; its answer is behind the others, and nobody else moved
 pub record Leaves (who : ℕ) (next : OpenerState) (came : Step) (old new : WorldState) : Type 0 where
@@ -250,6 +254,7 @@ pub record IsOpened (start : Region) (parts : List Part) (who : ℕ) (o : Opener
   pub saw : FoundSaw o.work start (past_of parts)
   pub unfull : IsUnfull o.work
   pub stored : HasStored step.Going o.work (running who parts)
+  pub marked : HasMarked who step.Going o.work (running who parts)
 
 -- so many openers were opened, and none has this number
 abbrev pub IsNobody : ℕ → ℕ → Type 0
@@ -269,8 +274,10 @@ pub record IsAt (stock left : Stock) (start : Region) (parts : List Part) (p : P
   pub steady : p.world.region.failing.listed ≡ []
   pub live : NoneDies (past_of parts)
   pub each : ArePlayed stock parts
+  pub playable : ArePlayable parts
   pub in_time : AreInTime start parts
   pub reasoned : AreReasoned start parts
+  pub held : AreHeld parts
   pub roomy : AreRoomy parts
   pub histories : AreHistories start parts
   pub answered : AreAnswered start (past_of parts) (answers_in (outcomes_of parts))

@@ -66,7 +66,7 @@ pub record Made (o next : OpenerState) (came : Step) (s t : ShareState) : Type 0
   pub settles : Settles o came next s t
 
 -- an opener with a hold that lives has the lock for itself
-holds_exclusive : (p : OpenerState) (work : Work) → p.work ≡ work → is_ended work ≡ false → 0 < p.holds → lock_in p.holds p.work ≡ Some Exclusive
+pub holds_exclusive : (p : OpenerState) (work : Work) → p.work ≡ work → is_ended work ≡ false → 0 < p.holds → lock_in p.holds p.work ≡ Some Exclusive
 holds_exclusive p Idle is alive some = ap (lock_in p.holds) is ∙ exclusive_if p.holds None some
 holds_exclusive p Ended is alive some = absurd cc
 holds_exclusive p (Runs running stage) is alive some = ap (lock_in p.holds) is ∙ exclusive_if p.holds running.taken some
