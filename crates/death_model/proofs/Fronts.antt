@@ -1,14 +1,14 @@
 -- The first events of a list, in which the oldest stands first.
-use Rattle.std.proofs.Common.{◌≡◌, ℕ, ◌+◌, ◌<◌, ◌≤◌, Bool, true, false, List, [], ◌∷◌, ◌++◌, length, take, drop, get_or, reverse, append-nil, refl, sym, ap, ◌∙◌, arith, subst}
+use Rattle.std.proofs.Common.{◌≡◌, ℕ, ◌+◌, ◌<◌, ◌≤◌, true, false, List, [], ◌∷◌, ◌++◌, length, take, drop, get_or, reverse, append-nil, refl, sym, ap, ◌∙◌, subst}
 use Rattle.std.specs.Prelude.{IsTrue, ◌↔◌, Some}
 use Rattle.std.proofs.lemmas.List.{take-append-drop, take_more, take_all, reverse-append}
 use Rattle.region_words.specs.Region.{Region}
 use Rattle.region_words.specs.Past.{region_after}
-use Rattle.region_words.specs.Apart.{Apart, strings}
+use Rattle.region_words.specs.Apart.{Apart}
 use Rattle.region_words.specs.declared.event.Event.{Event}
 use Rattle.region_words.proofs.ReadLaws.{apart_front}
 use Rattle.death_model.specs.InRange.{AreInRange, IsInRange}
-use Rattle.death_model.specs.RunInside.{Begins, Follows, IsAfter}
+use Rattle.death_model.specs.RunInside.{IsAfter}
 use Rattle.death_model.specs.SeenInside.{kept_for}
 use Rattle.death_model.specs.declared.run.Run.{Run}
 use Rattle.death_model.proofs.Ranges.{in_range_before}

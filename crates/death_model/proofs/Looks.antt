@@ -1,6 +1,6 @@
 -- What looks at payloads tell of all of them.
-use Rattle.std.proofs.Common.{◌≡◌, ◌≢◌, ◌⊎◌, ℕ, ◌<◌, Bool, true, false, cond, List, [], ◌∷◌, ◌++◌, Vec, length, refl, sym, ap, ◌∙◌, inl, inr, arith, subst}
-use Rattle.std.specs.Prelude.{Contains, Option, Some, None, Result, Ok, Err, IfOk, nat_eq}
+use Rattle.std.proofs.Common.{◌≡◌, ℕ, Bool, true, false, cond, List, [], ◌∷◌, ◌++◌, Vec, refl, sym, ap, ◌∙◌, inl, inr, subst}
+use Rattle.std.specs.Prelude.{Contains, Some, None, Result, Ok, Err, IfOk, nat_eq}
 use Rattle.std.specs.declared.alloc.Global.{Global}
 use Rattle.std.specs.declared.cmp.Ordering.{Ordering}
 use Rattle.std.specs.declared.cmp.Ordering.TheVariants.{Less, Equal, Greater}
@@ -15,7 +15,7 @@ use Rattle.region_words.proofs.Strings.{contains_first, contains_more}
 use Rattle.region_words.specs.Region.{Region}
 use Rattle.region_words.specs.Apart.{recorded_payloads}
 use Rattle.death_model.specs.FilesInside.{payload_at, sizes_of}
-use Rattle.death_model.specs.SeenInside.{AreApart, Keeps, Tells, Within, kept_for}
+use Rattle.death_model.specs.SeenInside.{Keeps, Tells, Within, kept_for}
 use Rattle.death_model.specs.declared.seen.Seen.{Seen}
 use Rattle.death_model.specs.declared.files.Sizes.{Sizes}
 use Rattle.death_model.proofs.Payloads.{recorded_are}

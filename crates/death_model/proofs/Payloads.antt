@@ -1,18 +1,16 @@
 -- The payloads of some sizes, and which of them an event leaves as they were.
-use Rattle.std.proofs.Common.{◌≡◌, ◌⊎◌, ℕ, zero, suc, ◌+◌, ◌-◌, ◌*◌, ◌<◌, ◌≤◌, Bool, true, false, cond, List, [], ◌∷◌, ◌++◌, length, refl, sym, ap, ◌∙◌, inl, inr, arith}
-use Rattle.std.specs.Prelude.{Option, Some, None, nat_lt, nat_le, ◌==◌, ◌&&◌, slice_index}
+use Rattle.std.proofs.Common.{◌≡◌, ◌⊎◌, ℕ, zero, suc, ◌+◌, ◌-◌, ◌*◌, ◌<◌, ◌≤◌, Bool, true, false, List, [], ◌∷◌, ◌++◌, length, refl, sym, ap, ◌∙◌, inl, inr, arith}
+use Rattle.std.specs.Prelude.{Some, None, nat_le, ◌==◌, slice_index}
 use Rattle.std.proofs.lemmas.Bool.Decides.{nat_tests}
 use Rattle.crc_words.specs.Crc.{crc}
 use Rattle.meta_record.specs.Words.{fits, with_word}
 use Rattle.meta_record.proofs.WordLemmas.{length-with_word, above_word, below_word}
 use Rattle.region_words.specs.Region.{Region, header, record_of, payload_of}
-use Rattle.region_words.specs.Past.{region_step}
 use Rattle.region_words.specs.Apart.{payloads_of, recorded_payloads}
 use Rattle.region_words.specs.declared.event.Side.TheVariants.{Data, Meta}
 use Rattle.region_words.specs.declared.event.What.{What}
 use Rattle.region_words.specs.declared.event.What.TheVariants.{Store, Grow, Lock, Unlock, Died}
 use Rattle.region_words.proofs.WordsRead.{same_payload}
-use Rattle.death_model.specs.InRange.{IsInRange}
 use Rattle.death_model.specs.FilesInside.{IsStepTo, payload_at}
 use Rattle.death_model.specs.SeenInside.{lies_in, summed, touches}
 

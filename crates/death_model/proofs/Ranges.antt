@@ -1,7 +1,7 @@
 -- Events in range, one after another.
-use Rattle.std.proofs.Common.{◌≡◌, ℕ, ◌+◌, ◌*◌, ◌<◌, ◌≤◌, List, [], ◌∷◌, ◌++◌, length, take, drop, reverse, refl, sym, ap, ◌∙◌, arith, subst, length-append}
+use Rattle.std.proofs.Common.{◌≡◌, ℕ, List, [], ◌∷◌, ◌++◌, length, refl, ap, ◌∙◌, arith, length-append}
 use Rattle.std.proofs.lemmas.List.{length-replicate}
-use Rattle.std.specs.Prelude.{Some, None, Option, replicate, ◌-◌, ◌%◌}
+use Rattle.std.specs.Prelude.{Some, None, replicate, ◌-◌}
 use Rattle.meta_record.proofs.WordLemmas.{length-with_word}
 use Rattle.region_words.specs.Region.{Region, file_size, region_of}
 use Rattle.region_words.specs.declared.event.Side.TheVariants.{Data, Meta}

@@ -216,26 +216,26 @@ mod tests {
         Ok(())
     }
 
-    // The stores that write `buckeroo` over another payload of 8 bytes.
-    fn rewritten(alloc: Global) -> Result<Vec<Event>, Fail> {
+    // The stores that write `buckeroo` over another payload of 8 bytes, so many of them.
+    fn rewritten(alloc: Global, made: usize) -> Result<Vec<Event>, Memory> {
         let mut events = Vec::new(alloc);
         for what in [What::data(1, 0x6b63_7562), What::data(2, 0x6f6f_7265)] {
             events.push(Event { who: 1, what })?;
         }
+        events.truncate(made);
         Ok(events)
     }
 
     #[test]
     fn two_payloads_of_one_checksum_are_not_apart(rt: HostRuntime) -> Result<(), Fail> {
         // both have the CRC-32 4ddb0c25, as zlib says
-        let plumless = *b"\x08\0\0\0plumless";
-        let events = rewritten(rt.alloc())?;
-        let body = fill_up(plumless.to_vec(rt.alloc())?)?;
+        let body = fill_up(b"\x08\0\0\0plumless".to_vec(rt.alloc())?)?;
         let meta = fill_up(META.to_vec(rt.alloc())?)?;
-        let first = apart(rt.alloc(), &body, &meta, &events[..1])?;
-        assert_eq!(rt; first, Some(true));
-        let both = apart(rt.alloc(), &body, &meta, &events)?;
-        assert_eq!(rt; both, Some(false));
+        for (made, want) in [(1, true), (2, false)] {
+            let events = rewritten(rt.alloc(), made)?;
+            let apart = apart(rt.alloc(), &body, &meta, &events)?;
+            assert_eq!(rt; apart, Some(want), "after {made}");
+        }
         Ok(())
     }
 }

@@ -1,5 +1,5 @@
 // Whether events change words that are there.
-ghost use Rattle.std.specs.Prelude.{◌≡◌, ◌≤◌, ◌<◌, ◌↔◌, ◌+◌, ◌*◌, IsTrue, length, reverse};
+ghost use Rattle.std.specs.Prelude.{◌≡◌, ◌≤◌, ◌↔◌, ◌+◌, ◌*◌, IsTrue, length, reverse};
 ghost use Rattle.region_words.specs.Region.{Region, file_size, region_of};
 ghost use Rattle.death_model.specs.InRange.{AreInRange, IsInRange, LawfulIsInRange};
 ghost use Rattle.death_model.specs.FilesInside.{size_after};

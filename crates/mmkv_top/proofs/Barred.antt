@@ -84,11 +84,12 @@ free_to_try start past who kind holder holds lawful least is = go (holds == 0) i
 
 -- a try is one of the kind of the call, and nothing was taken for it before
 pub tried_at : (o : OpenerState) (c : Call) (at : Stage) (kind : LockKind) → kind_tried c.call at ≡ Some kind → IsAt o (Runs c at) → (kind_of c.call ≡ Some kind) × (c.taken ≡ None)
-tried_at o c stage.LockShared kind tried is = (tried, is.2.1)
+tried_at o c (stage.LockShared extent) kind tried is = (tried, is.2.1)
 tried_at o c stage.LockExclusive kind tried is = (tried, is.2.1)
 tried_at o c stage.Hold kind tried is = (tried, is.2.1)
 tried_at o c stage.PeekChecksum kind tried is = absurd cc
 tried_at o c (stage.PeekSequence peek) kind tried is = absurd cc
+tried_at o c (stage.Continue loading) kind tried is = absurd cc
 tried_at o c (stage.Load loading) kind tried is = absurd cc
 tried_at o c stage.Size kind tried is = absurd cc
 tried_at o c (stage.Reserve plan) kind tried is = absurd cc

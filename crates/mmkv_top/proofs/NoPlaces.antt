@@ -216,11 +216,12 @@ for_lock who c r s t one kind takes goes full free =
 
 -- a try is one of the kind of the call
 kind_at : (c : Call) (at : Stage) (kind : LockKind) → kind_tried c.call at ≡ Some kind → kind_of c.call ≡ Some kind
-kind_at c stage.LockShared kind tried = tried
+kind_at c (stage.LockShared extent) kind tried = tried
 kind_at c stage.LockExclusive kind tried = tried
 kind_at c stage.Hold kind tried = tried
 kind_at c stage.PeekChecksum kind tried = absurd cc
 kind_at c (stage.PeekSequence peek) kind tried = absurd cc
+kind_at c (stage.Continue loading) kind tried = absurd cc
 kind_at c (stage.Load loading) kind tried = absurd cc
 kind_at c stage.Size kind tried = absurd cc
 kind_at c (stage.Reserve plan) kind tried = absurd cc

@@ -19,6 +19,7 @@ use Rattle.opener.specs.declared.work.Running.{Running as Call}
 use Rattle.opener.specs.declared.work.End.TheVariants as end
 use Rattle.opener.specs.declared.work.Stage.{Stage}
 use Rattle.opener.specs.declared.work.Stage.TheVariants as stage
+use Rattle.opener.specs.declared.work.Extent.TheVariants.{Full}
 use Rattle.opener.specs.declared.work.Work.{Work}
 use Rattle.opener.specs.declared.work.Work.TheVariants.{Idle, Ended, Runs}
 use Rattle.region_words.specs.Local.{Seated, seat_state}
@@ -169,7 +170,7 @@ pub quiet_reasoned : (start : Region) (p : Part) (parts : List Part) → p.outco
 quiet_reasoned start p parts none c who r runs is = let both : None ≡ Some (Stopped who r) = sym none ∙ is in absurd cc
 
 -- what is true of the stages at which a call can begin
-pub first_at : (P : Stage → Type 0) → P stage.Hold → P stage.Release → P stage.LockExclusive → P stage.PeekChecksum → P stage.LockShared → ((loading : Load) → P (stage.Load loading)) →
+pub first_at : (P : Stage → Type 0) → P stage.Hold → P stage.Release → P stage.LockExclusive → P stage.PeekChecksum → P (stage.LockShared Full) → ((loading : Load) → P (stage.Load loading)) →
     (asked : Asked) (image : Option Image) (holds : ℕ) (next : Stage) → IsFirst image holds asked next → P next
 first_at P hold release exclusive peek shared load asked image holds next first = go asked first
   where
@@ -177,7 +178,7 @@ first_at P hold release exclusive peek shared load asked image holds next first 
     is to f e = subst P (sym e) f
 
     by : (lock : Option LockKind) → ReadsBy lock next → P next
-    by None e = is stage.LockShared shared e
+    by None e = is (stage.LockShared Full) shared e
     by (Some kind) (loading, e, fresh) = is (stage.Load loading) (load loading) e
 
     notices : (image : Option Image) → Notices image holds None next → P next

@@ -1,4 +1,4 @@
-use Rattle.std.proofs.Common.{reverse, take, subst, sym}
+use Rattle.std.proofs.Common.{subst, sym}
 use Rattle.region_words.specs.Region.{region_of}
 use Rattle.death_model.specs.InRange.{IsInRange}
 use Rattle.death_model.proofs.Fronts.{next_in_range}

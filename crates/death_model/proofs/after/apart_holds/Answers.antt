@@ -1,8 +1,7 @@
-use Rattle.std.proofs.Common.{◌≡◌, List, [], ◌∷◌, Bool, true, false, reverse, take, sym, subst, arith}
+use Rattle.std.proofs.Common.{reverse, take, sym, subst, arith}
 use Rattle.region_words.specs.Region.{Region, region_of}
 use Rattle.region_words.specs.Apart.{Apart}
 use Rattle.death_model.specs.InRange.{IsInRange}
-use Rattle.death_model.specs.FilesInside.{IsReadable, region_in}
 use Rattle.death_model.specs.RunInside.{Begins, Follows, IsAfter}
 use Rattle.death_model.proofs.Fronts.{answers_false, answers_true, first_all, first_next, keeps_apart, next_apart, next_in_range, start_apart}
 use Rattle.death_model.proofs.after.apart_holds.Goals as goal

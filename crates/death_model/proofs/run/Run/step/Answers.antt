@@ -1,9 +1,7 @@
-use Rattle.std.proofs.Common.{◌≡◌, List, [], ℕ, Bool, true, false, refl, sym, subst}
-use Rattle.region_words.specs.Region.{Region}
+use Rattle.std.proofs.Common.{[], true, false, refl, sym, subst}
 use Rattle.region_words.specs.Apart.{recorded_payloads}
 use Rattle.death_model.specs.FilesInside.{IsReadable, region_in}
 use Rattle.death_model.specs.SeenInside.{Tells, meant, plain_checksum}
-use Rattle.death_model.specs.RunInside.{word_after}
 use Rattle.death_model.proofs.Looks.{answered}
 use Rattle.death_model.proofs.Ranges.{stays_readable}
 use Rattle.death_model.proofs.Runs.{clashes, clashes_later, goes_on}

@@ -1,4 +1,4 @@
-use Rattle.std.proofs.Common.{◌≡◌, List, ℕ, Bool, false, sym, subst}
+use Rattle.std.proofs.Common.{◌≡◌, false, sym, subst}
 use Rattle.region_words.specs.Region.{Region}
 use Rattle.region_words.specs.Apart.{recorded_payloads}
 use Rattle.death_model.specs.FilesInside.{IsStepTo, payload_at, region_in, sizes_of}

@@ -1,4 +1,4 @@
-use Rattle.std.proofs.Common.{◌≡◌, List, [], ℕ, Bool}
+use Rattle.std.proofs.Common.{[]}
 use Rattle.region_words.specs.Apart.{recorded_payloads}
 use Rattle.death_model.specs.FilesInside.{region_in, payload_at}
 use Rattle.death_model.specs.SeenInside.{Tells}

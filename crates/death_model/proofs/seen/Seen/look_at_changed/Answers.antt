@@ -1,4 +1,4 @@
-use Rattle.std.proofs.Common.{◌≡◌, ap, sym, ◌∙◌, subst, List, [], ℕ, Bool, true}
+use Rattle.std.proofs.Common.{◌≡◌, ap, sym, ◌∙◌, subst, [], true}
 use Rattle.region_words.specs.Region.{Region}
 use Rattle.death_model.specs.FilesInside.{region_in, payload_at, IsStepTo}
 use Rattle.death_model.specs.SeenInside.{Tells}

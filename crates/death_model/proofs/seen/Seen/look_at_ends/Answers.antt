@@ -1,4 +1,4 @@
-use Rattle.std.proofs.Common.{◌≡◌, ◌+◌, arith}
+use Rattle.std.proofs.Common.{arith}
 use Rattle.death_model.specs.FilesInside.{region_in}
 use Rattle.death_model.proofs.Ends.{all_below, none_below, one_more_below, stops_at}
 use Rattle.death_model.proofs.seen.Seen.look_at_ends.Goals as goal

@@ -1,4 +1,4 @@
-use Rattle.std.proofs.Common.{◌≡◌, List, [], ℕ, subst}
+use Rattle.std.proofs.Common.{[], subst}
 use Rattle.std.specs.Prelude.{IfOk}
 use Rattle.death_model.specs.FilesInside.{region_in}
 use Rattle.death_model.specs.SeenInside.{Tells}
