@@ -314,12 +314,15 @@ HasNoPlaces (Runs running (Reserve plan)) s t =
     StopsReserving (events_in plan) stop.JournalFull s t × (s.reserved s.who ≡ 0) × OnTold t.told (λ h. PlanIs s.who running plan h.start h.past)
 HasNoPlaces _ s t = ⊥
 
--- why a call stops
+-- why a call stops; a write is refused by one that holds exclusive
 abbrev pub HasReason : Work → Stop → ShareState → ShareState → Type 0
 HasReason old Fault s t = Fails s t
 HasReason old Memory s t = ⊤
 HasReason old JournalFull s t = ((kind : LockKind) × IsTried old kind × StopsTrying kind stop.JournalFull s t) ⊎ HasNoPlaces old s t
-HasReason (Runs running stage) why s t = OnTold t.told (λ h. StopIs running why h.start h.past)
+HasReason (Runs running stage) (NotWhole seen) s t = OnTold t.told (λ h. StopIs running (NotWhole seen) h.start h.past)
+HasReason (Runs running stage) (Version n) s t = OnTold t.told (λ h. StopIs running (Version n) h.start h.past)
+HasReason (Runs running stage) (Flags n) s t = OnTold t.told (λ h. StopIs running (Flags n) h.start h.past)
+HasReason (Runs running stage) why s t = (t.holds ≡ Some Exclusive) × OnTold t.told (λ h. StopIs running why h.start h.past)
 HasReason _ why s t = ⊥
 
 -- a stop has its reason where it is found, and after that its call only gives its lock up
