@@ -216,10 +216,10 @@ pub record MetFullJournal (start : Region) (parts : List Part) (who count : ℕ)
   pub full : IsTooFull (length (strategies parts)) (made ++ past_of parts) asked
 
 -- one more opener asked for the place of its death. Other openers have so many places reserved for stores to come: none, unless one of them
--- holds exclusive
+-- holds exclusive and runs a write
 pub record MetNoPlace (parts : List Part) : Type 0 where
   pub reserved : ℕ
-  pub by_holder : 0 < reserved → (w : ℕ) × (lock_of (locks_after (past_of parts)) w ≡ Some Exclusive)
+  pub by_writer : 0 < reserved → (w : ℕ) × (c : Running) × (running w parts ≡ Some c) × (is_write c.call ≡ true) × (lock_of (locks_after (past_of parts)) w ≡ Some Exclusive)
   pub full : IsTooFull (length (strategies parts)) (past_of parts) (reserved + 1)
 
 -- a line for which the journal was too full
