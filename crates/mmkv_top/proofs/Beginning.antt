@@ -197,7 +197,7 @@ module _ (stock left : Stock) (start : Region) (parts : List Part) (p q : PlaySt
             (earlier_now who (record { call = call; now = now; past = past_of parts; since = [] }) (answers_in (outcomes_of parts)) at.within));
         bounded = subst (λ n. IsBounded next.work n (file_size (region_after start (past_of parts)))) (sym none_asked)
             (begin_bounded call now (length (changes_of p.world.region.past)) (file_size (region_after start (past_of parts))) o next b.begins b.few);
-        found = begin_found call now (length (changes_of p.world.region.past)) o next start (past_of parts) b.begins;
+        found = begin_found who call now (length (changes_of p.world.region.past)) o next start (past_of parts) b.begins;
         saw = subst (λ x. IfSome x (λ why. StopSaw why start (past_of parts))) (sym (begun_stopless call now (length (changes_of p.world.region.past)) o next b.begins)) tt;
         unfull = λ e. let both : None ≡ Some stop.JournalFull = sym (begun_stopless call now (length (changes_of p.world.region.past)) o next b.begins) ∙ e in absurd cc;
         marked = subst (HasMarked who step.Going next.work) (sym runs_now)

@@ -31,7 +31,7 @@ stores_of_own who (x ∷ own) = go (is_store x) (stores_of_own who own)
     go false same = same
 
 -- before a lock is taken nothing is held
-free_before : (locks : Locks) (who : ℕ) (kind : LockKind) → MayTake locks who kind → lock_of locks who ≡ None
+pub free_before : (locks : Locks) (who : ℕ) (kind : LockKind) → MayTake locks who kind → lock_of locks who ≡ None
 free_before locks who Shared may = none_holds locks who may.0
 free_before locks who Exclusive may = (λ i. lock_of (record { shared = may.0 i; exclusive = may.1 i }) who) ∙ lock_at_first who
 

@@ -31,7 +31,7 @@ use Rattle.region_words.proofs.LockOf.{exclusive_is}
 use Rattle.world.specs.World.{IsSound, WorldState, share_of}
 use Rattle.mmkv_top.specs.Parts.{Part, Running, past_of, strategies}
 use Rattle.mmkv_top.specs.Played.{AsksFor, IsTooFull, places_after}
-use Rattle.mmkv_top.specs.Progress.{IsOpenTo}
+use Rattle.mmkv_top.specs.Progress.{FollowsWork, IsOpenTo}
 
 -- Who has places reserved holds the lock exclusive.
 reserving : (o : OpenerState) (work : Work) (s : ShareState) → 0 < s.reserved s.who → Owes o work s → IsAt o work → lock_in o.holds work ≡ Some Exclusive
@@ -177,8 +177,40 @@ module _ (w : WorldState) (sound : IsSound w) (opened : ℕ) (open_to : IsOpenTo
 
   -- one more opener has no place
   pub no_place : most_events < length w.region.past + kept_after w.region + 1 →
-      (reserved : ℕ) × (0 < reserved → (v : ℕ) × (lock_of (locks_after w.region.past) v ≡ Some Exclusive)) × IsTooFull opened w.region.past (reserved + 1)
-  no_place full = (extra, (λ some. let r = reserver some in (r.number, r.holds)), omega (arith, kept_parts, full))
+      (reserved : ℕ) × (0 < reserved → Reserver) × IsTooFull opened w.region.past (reserved + 1)
+  no_place full = (extra, reserver, omega (arith, kept_parts, full))
+
+-- a call that changes the map
+writes : (asked : Asked) → CanWrite asked → is_write asked ≡ true
+writes (call.Put key value seconds) can = refl
+writes (call.Remove key) can = refl
+writes call.Clear can = refl
+writes (call.Get key) can = absurd can
+writes call.Keys can = absurd can
+writes call.Count can = absurd can
+writes (call.Enable seconds) can = absurd can
+writes call.Disable can = absurd can
+writes call.Hold can = absurd can
+writes call.Release can = absurd can
+writes call.Sync can = absurd can
+
+-- who has places reserved runs a write
+pub writing : (o : OpenerState) (work : Work) (r : Option Running) (s : ShareState) → 0 < s.reserved s.who → Owes o work s → IsAt o work → FollowsWork work r →
+    (c : Running) × (r ≡ Some c) × (is_write c.call ≡ true)
+writing o (Runs c (stage.Store plan)) (Some r) s some owes at follows = (r, refl, ap is_write (sym follows.call) ∙ writes c.call at.1)
+writing o (Runs c (stage.Store plan)) None s some owes at follows = absurd follows
+writing o Idle r s some owes at follows = absurd (omega (arith, some, owes))
+writing o Ended r s some owes at follows = absurd (omega (arith, some, owes))
+writing o (Runs c stage.PeekChecksum) r s some owes at follows = absurd (omega (arith, some, owes))
+writing o (Runs c (stage.PeekSequence peek)) r s some owes at follows = absurd (omega (arith, some, owes))
+writing o (Runs c stage.LockShared) r s some owes at follows = absurd (omega (arith, some, owes))
+writing o (Runs c stage.LockExclusive) r s some owes at follows = absurd (omega (arith, some, owes))
+writing o (Runs c (stage.Load loading)) r s some owes at follows = absurd (omega (arith, some, owes))
+writing o (Runs c stage.Size) r s some owes at follows = absurd (omega (arith, some, owes))
+writing o (Runs c (stage.Reserve plan)) r s some owes at follows = absurd (omega (arith, some, owes))
+writing o (Runs c (stage.Unlock how)) r s some owes at follows = absurd (omega (arith, some, owes))
+writing o (Runs c stage.Hold) r s some owes at follows = absurd (omega (arith, some, owes))
+writing o (Runs c stage.Release) r s some owes at follows = absurd (omega (arith, some, owes))
 
 -- after the lines there is room
 abbrev HasRoom : List Part → Type 0
@@ -228,19 +260,6 @@ kind_at c (stage.Reserve plan) kind tried = absurd cc
 kind_at c (stage.Store plan) kind tried = absurd cc
 kind_at c (stage.Unlock how) kind tried = absurd cc
 kind_at c stage.Release kind tried = absurd cc
-
-writes : (asked : Asked) → CanWrite asked → is_write asked ≡ true
-writes (call.Put key value seconds) can = refl
-writes (call.Remove key) can = refl
-writes call.Clear can = refl
-writes (call.Get key) can = absurd can
-writes call.Keys can = absurd can
-writes call.Count can = absurd can
-writes (call.Enable seconds) can = absurd can
-writes call.Disable can = absurd can
-writes call.Hold can = absurd can
-writes call.Release can = absurd can
-writes call.Sync can = absurd can
 
 pub found_none : (who : ℕ) (o : OpenerState) (c : Call) (at : Stage) (r : Running) (s t : Seated) → s.who ≡ who → t.who ≡ who → (seat_state s).holds ≡ lock_in o.holds (Runs c at) → IsAt o (Runs c at) →
     c.call ≡ r.call → c.now ≡ r.now → HasReason (Runs c at) stop.JournalFull (seat_state s) (seat_state t) → FoundNone who r s t

@@ -1,5 +1,5 @@
 -- A line that opens an opener.
-use Rattle.std.proofs.Common.{◌≡◌, ◌≢◌, ℕ, ◌+◌, ◌<◌, ◌≤◌, ◌⊎◌, Bool, true, false, not, ◌||◌, eqb, List, [], ◌∷◌, ◌++◌, length, refl, sym, ap, ◌∙◌, inl, inr, arith, subst, length-append}
+use Rattle.std.proofs.Common.{◌≡◌, ◌≢◌, ℕ, ◌+◌, ◌-◌, ◌<◌, ◌≤◌, ◌⊎◌, Bool, true, false, not, ◌||◌, eqb, List, [], ◌∷◌, ◌++◌, length, refl, sym, ap, ◌∙◌, inl, inr, arith, subst, length-append}
 use Rattle.std.proofs.lemmas.Bool.Decides.{eqb_tells, nat_tests}
 use Rattle.std.proofs.lemmas.List.Elements.{All-head, filter-append}
 use Rattle.std.specs.Prelude.{All, Option, Some, None, filter, nat_le, slice_get, if◌then◌else◌}
@@ -8,6 +8,8 @@ use Rattle.handlers.specs.Stock.{Draws}
 use Rattle.lock_rules.specs.declared.table.LockKind.TheVariants.{Exclusive}
 use Rattle.handlers.specs.declared.handler.Strategy.{Strategy}
 use Rattle.handlers.specs.declared.handler.Strategy.TheVariants.{Discard, Recover, Leave}
+use Rattle.opener.specs.Calls.{is_write}
+use Rattle.opener.specs.Opener.{Tied}
 use Rattle.opener.specs.State.{OpenerState}
 use Rattle.opener.specs.declared.calls.Step.TheVariants as step
 use Rattle.opener.specs.declared.work.Work.TheVariants.{Idle}
@@ -19,7 +21,7 @@ use Rattle.region_words.specs.declared.account.Account.{Account}
 use Rattle.region_words.specs.declared.event.Event.{Event}
 use Rattle.region_words.proofs.Accounts.{other_account}
 use Rattle.script_lang.specs.declared.line.Line.TheVariants.{Open}
-use Rattle.world.specs.World.{IsSound, WorldState}
+use Rattle.world.specs.World.{IsSound, WorldState, share_of}
 use Rattle.world.specs.Moves.{IsNotOpened, Opens, new_opener}
 use Rattle.world.specs.declared.stops.OpenStop.{OpenStop}
 use Rattle.world.specs.declared.stops.OpenStop.TheVariants as opening
@@ -28,11 +30,11 @@ use Rattle.world.proofs.Numbered.{pushed_is}
 use Rattle.mmkv_top.specs.Halting.{of_opening}
 use Rattle.mmkv_top.specs.State.{PlayState, play_state}
 use Rattle.mmkv_top.specs.declared.halt.Halt.TheVariants as halt
-use Rattle.mmkv_top.specs.Parts.{Part, answers_in, outcomes_of, strategies}
+use Rattle.mmkv_top.specs.Parts.{Part, Running, answers_in, outcomes_of, past_of, running, strategies}
 use Rattle.mmkv_top.specs.Played.{IsTooFull, MetNoPlace, Stock, drawn, is_same, stocked}
 use Rattle.mmkv_top.specs.Progress.{AreEarlier, FollowsWork, HasHalted, HasMarked, HasStored, IsAt, IsNobody, IsOpenTo, IsOpened, IsUnopened, TakesOne}
 use Rattle.mmkv_top.proofs.Answering.{nothing_answered}
-use Rattle.mmkv_top.proofs.NoPlaces.{no_place}
+use Rattle.mmkv_top.proofs.NoPlaces.{Reserver, no_place, opener_there, writing}
 use Rattle.mmkv_top.proofs.Others.{opened_still, unopened_still}
 use Rattle.mmkv_top.proofs.Beginning.{quiet_taken}
 
@@ -96,18 +98,26 @@ pub undrawn_halted : (stock left : Stock) (start : Region) (parts : List Part) (
 undrawn_halted stock left start parts p strategy at none can = absurd (omega (arith, at.drawn strategy, none, can.0.1))
 
 -- A stock that had one opens an opener where the world does.
-abbrev NoPlace : ℕ → List Event → Type 0
-NoPlace opened past = (reserved : ℕ) × (0 < reserved → (v : ℕ) × (lock_of (locks_after past) v ≡ Some Exclusive)) × IsTooFull opened past (reserved + 1)
-
 module _ (stock left left' : Stock) (start : Region) (parts : List Part) (p : PlayState) (strategy : Strategy) (before : IsSound p.world) (at : IsAt stock left start parts p)
     (drew : (s : Strategy) → stocked left' s + (if is_same s strategy then 1 else 0) ≡ stocked left s) where
   enough : drawn strategy (strategies parts) < stocked stock strategy
   enough = omega (arith, at.drawn strategy, drew strategy, one_of (is_same strategy strategy) (is_itself strategy))
 
+  -- whoever has places reserved runs a write
+  writer : Reserver p.world before (length (strategies parts)) at.open_to (sym at.count) →
+      (w : ℕ) × (c : Running) × (running w parts ≡ Some c) × (is_write c.call ≡ true) × (lock_of (locks_after (past_of parts)) w ≡ Some Exclusive)
+  writer v =
+      let there = opener_there p.world.openers (v.number - 1) (omega (arith, v.least, v.most, at.count)) in
+      let is : v.number - 1 + 1 ≡ v.number = omega (arith, v.least) in
+      let op : IsOpened start parts v.number there.0 = subst (λ w. IsOpened start parts w there.0) is (at.openers (v.number - 1) there.0 there.1) in
+      let tied : Tied there.0 (share_of p.world.region v.number) = subst (λ w. Tied there.0 (share_of p.world.region w)) is (before.each (v.number - 1) there.0 there.1).tied in
+      let runs = writing there.0 there.0.work (running v.number parts) (share_of p.world.region v.number) v.some tied.owes tied.at op.follows in
+      (v.number, runs.0, runs.1, runs.2, subst (λ past. lock_of (locks_after past) v.number ≡ Some Exclusive) at.past v.holds)
+
   no_place_left : most_events < length p.world.region.past + kept_after p.world.region + 1 → MetNoPlace parts
   no_place_left full =
-      let met = subst (NoPlace (length (strategies parts))) at.past (no_place p.world before (length (strategies parts)) at.open_to (sym at.count) full) in
-      record { reserved = met.0; by_holder = met.1; full = met.2 }
+      let met = no_place p.world before (length (strategies parts)) at.open_to (sym at.count) full in
+      record { reserved = met.0; by_writer = λ some. writer (met.1 some); full = subst (λ past. IsTooFull (length (strategies parts)) past (met.0 + 1)) at.past met.2 }
 
   -- none was opened
   pub open_halted : (why : OpenStop) → IsNotOpened why p.world → HasHalted stock start parts (Some (Open strategy)) (of_opening why)

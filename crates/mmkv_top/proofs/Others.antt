@@ -16,6 +16,7 @@ use Rattle.script_lang.specs.declared.line.Line.TheVariants.{Begin, Step as Step
 use Rattle.script_lang.specs.declared.outcome.Outcome.{Outcome}
 use Rattle.script_lang.specs.declared.outcome.Outcome.TheVariants.{Answered, Blocked, Stopped}
 use Rattle.mmkv_top.specs.Parts.{Part, answers_in, asked_after, asked_of, going_on, held_after, holds_of, listed, outcomes_of, own_of, past_of, running, running_after, Running, stepped}
+use Rattle.mmkv_top.specs.Played.{TakesNone}
 use Rattle.mmkv_top.specs.Progress.{AreEarlier, FollowsWork, HasMarked, HasStored, IsBounded, IsOpened, IsUnopened}
 use Rattle.mmkv_top.proofs.Answering.{earlier_other}
 use Rattle.mmkv_top.proofs.InTime.{asked_other, bounded_later}
@@ -64,6 +65,11 @@ earlier_still maker who r answers None n own e = subst (AreEarlier who r) (sym (
 earlier_still maker who r answers (Some (Blocked w holder)) n own e = subst (AreEarlier who r) (sym (append-nil answers)) e
 earlier_still maker who r answers (Some (Stopped w why)) n own e = subst (AreEarlier who r) (sym (append-nil answers)) e
 
+-- no step of another takes a lock for this one
+others_take_none : (maker who : ℕ) (made : List Event) → maker ≢ who → AreSteps maker made → TakesNone who made
+others_take_none maker who [] n own = tt
+others_take_none maker who (e ∷ made) n own = ((λ same. absurd (n (sym own.0.0 ∙ same))), others_take_none maker who made n own.1)
+
 -- another's line of steps
 module _ (start : Region) (parts : List Part) (maker who count : ℕ) (made : List Event) (outcome : Option Outcome) (n : maker ≢ who) (steps : AreSteps maker made) (own : IsOwn maker outcome) where
   abbrev grown : List Part
@@ -84,7 +90,7 @@ module _ (start : Region) (parts : List Part) (maker who count : ℕ) (made : Li
         bounded = subst (λ asked. IsBounded o.work asked (file_size (region_after start (made ++ past_of parts)))) (sym (asked_other maker who count outcome (asked_of who parts) n))
             (bounded_later o.work (asked_of who parts) (file_size (region_after start (past_of parts))) (file_size (region_after start (made ++ past_of parts))) (file_grows start made (past_of parts) lawful) op.bounded);
         marked = subst (HasMarked who step.Going o.work) (sym same) op.marked;
-        found = found_later o.work start made (past_of parts) op.found;
+        found = found_later who o.work start made (past_of parts) (λ found. others_take_none maker who made n steps) op.found;
         saw = saw_still o.work start made (past_of parts) op.saw;
         unfull = op.unfull;
         stored = subst (HasStored step.Going o.work) (sym same) op.stored;

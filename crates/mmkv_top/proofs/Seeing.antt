@@ -69,9 +69,9 @@ module _ (o : OpenerState) (s t : Seated) (tied : Tied o (seat_state t)) (ok : I
       }
 
   stop_saw : (c : Call) (at : Stage) (why : Stop) → s.region.failing.listed ≡ [] → HasReason (Runs c at) why (seat_state s) (seat_state t) → StopSaw why t.region.start t.region.past
-  stop_saw c at (stop.NotWhole seen) steady h = saw_none seen h.1.0 h.1.1 h.1.2
-  stop_saw c at (stop.Version n) steady h = not_refused _ _ (lawful_accepted t.region.start t.region.past ok tied.told.agrees.lawful) h.1
-  stop_saw c at (stop.Flags n) steady h = not_refused _ _ (lawful_accepted t.region.start t.region.past ok tied.told.agrees.lawful) h.1
+  stop_saw c at (stop.NotWhole seen) steady h = saw_none seen h.2.0 h.2.1 h.2.2
+  stop_saw c at (stop.Version n) steady h = not_refused _ _ (lawful_accepted t.region.start t.region.past ok tied.told.agrees.lawful) h.2
+  stop_saw c at (stop.Flags n) steady h = not_refused _ _ (lawful_accepted t.region.start t.region.past ok tied.told.agrees.lawful) h.2
   stop_saw c at stop.Fault steady h = h.due.0 steady
   stop_saw c at stop.Memory steady h = tt
   stop_saw c at stop.JournalFull steady h = tt

@@ -38,10 +38,10 @@ use Rattle.world.specs.Moves.{Steps}
 use Rattle.mmkv_top.specs.Parts.{Running, going_on, is_lock, locks_among, stores_among}
 use Rattle.mmkv_top.proofs.Barred.{free_to_try, tried_at}
 use Rattle.mmkv_top.proofs.Counting.{count_goes_on, own_locks, stores_of_own}
-use Rattle.mmkv_top.specs.Played.{AsksFor, IsAnsweredBy, IsBlockedBy, IsTooFull}
+use Rattle.mmkv_top.specs.Played.{AsksFor, IsAnsweredBy, IsBlockedBy, IsTooFull, TakesNone}
 use Rattle.region_words.proofs.ReadLaws.{changes_more}
 use Rattle.region_words.proofs.StaysFirm.{file_grows}
-use Rattle.mmkv_top.proofs.Reasoning.{found_later, going_found, holds_of_same, idle_found, stopped_holds}
+use Rattle.mmkv_top.proofs.Reasoning.{found_later, found_quiet, going_found, holds_of_same, idle_found, stopped_holds}
 use Rattle.mmkv_top.proofs.NoPlaces.{Reserver, alone_asks, at_stop, found_none, reason_now, too_full}
 use Rattle.mmkv_top.proofs.Marking.{commits_few, step_marked}
 use Rattle.mmkv_top.proofs.Storing.{step_stored}
@@ -302,11 +302,12 @@ step_fewer s t makes first work after n result lawful falls fewer = go result fa
     go (step.Stopped why) falls = tt
 
 -- what was found, and the begin of the call, hold after a step
-moved_later : (s t : Seated) → MakesOne (seat_state s) (seat_state t) → (work : Work) → FoundIs work s.region.start s.region.past → FoundIs work t.region.start t.region.past
-moved_later s t makes work f =
+moved_later : (who : ℕ) (s t : Seated) (makes : MakesOne (seat_state s) (seat_state t)) (work : Work) → (stop_found work ≢ None → TakesNone who (made_by s.who (moved s t makes).own)) →
+    FoundIs who work s.region.start s.region.past → FoundIs who work t.region.start t.region.past
+moved_later who s t makes work quiet f =
     let m = moved s t makes in
-    subst (λ x. FoundIs work x t.region.past) (sym m.start)
-    (subst (λ p. FoundIs work s.region.start p) (sym m.past) (found_later work s.region.start (made_by s.who m.own) s.region.past f))
+    subst (λ x. FoundIs who work x t.region.past) (sym m.start)
+    (subst (λ p. FoundIs who work s.region.start p) (sym m.past) (found_later who work s.region.start (made_by s.who m.own) s.region.past quiet f))
 
 -- a call that runs began after no more changes than there are
 abbrev HasBegun : Work → List Event → Type 0
@@ -329,25 +330,25 @@ begun_later s t makes (Runs c at) begun =
     subst (λ p. c.begun ≤ length (changes_of p)) (sym m.past)
     (omega (arith, begun, ap length (changes_more (made_by s.who m.own) s.region.past), length-append (changes_of s.region.past) (changes_of (made_by s.who m.own))))
 
-module _ (s t : Seated) (o o' : OpenerState) where
+module _ (who : ℕ) (s t : Seated) (one : t.who ≡ who) (o o' : OpenerState) where
   -- what a step has found
-  step_found : (work : Work) (result : Step) → FoundIs work t.region.start t.region.past → HasBegun work t.region.past → KeepsWork (record o { work = work }) result o' →
-      HasCause work result o'.work (seat_state s) (seat_state t) → Falls work result o'.work (seat_state t) → FoundIs o'.work t.region.start t.region.past
-  step_found Idle result found begun keeps cause falls = subst (λ (x : OpenerState). FoundIs x.work t.region.start t.region.past) (sym keeps.1) tt
-  step_found Ended result found begun keeps cause falls = subst (λ (x : OpenerState). FoundIs x.work t.region.start t.region.past) (sym keeps.1) tt
+  step_found : (work : Work) (result : Step) → FoundIs who work t.region.start t.region.past → HasBegun work t.region.past → KeepsWork (record o { work = work }) result o' →
+      HasCause work result o'.work (seat_state s) (seat_state t) → Falls work result o'.work (seat_state t) → FoundIs who o'.work t.region.start t.region.past
+  step_found Idle result found begun keeps cause falls = subst (λ (x : OpenerState). FoundIs who x.work t.region.start t.region.past) (sym keeps.1) tt
+  step_found Ended result found begun keeps cause falls = subst (λ (x : OpenerState). FoundIs who x.work t.region.start t.region.past) (sym keeps.1) tt
   step_found (Runs c at) result found begun keeps cause falls = go result keeps cause falls
     where
-      over : (work : Work) → work ≡ Idle → FoundIs work t.region.start t.region.past
-      over work idle = idle_found work t.region.start t.region.past idle
+      over : (work : Work) → work ≡ Idle → FoundIs who work t.region.start t.region.past
+      over work idle = idle_found who work t.region.start t.region.past idle
 
       go : (result : Step) → KeepsCall o.who o.holds c result o' → HasCause (Runs c at) result o'.work (seat_state s) (seat_state t) → Falls (Runs c at) result o'.work (seat_state t) →
-          FoundIs o'.work t.region.start t.region.past
+          FoundIs who o'.work t.region.start t.region.past
       go step.Idle keeps cause falls = absurd keeps
-      go step.Going keeps cause falls = going_found c at s t begun o'.work keeps.0 cause
-      go step.Again keeps cause same = subst (λ w. FoundIs w t.region.start t.region.past) (sym same) found
-      go (step.Blocked holder) keeps cause same = subst (λ w. FoundIs w t.region.start t.region.past) (sym same) found
+      go step.Going keeps cause falls = going_found who c at s t one begun o'.work keeps.0 cause
+      go step.Again keeps cause same = subst (λ w. FoundIs who w t.region.start t.region.past) (sym same) found
+      go (step.Blocked holder) keeps cause same = subst (λ w. FoundIs who w t.region.start t.region.past) (sym same) found
       go (step.Answered a) keeps cause falls = over o'.work keeps.1
-      go (step.Stopped stop.Fault) keeps cause falls = subst (λ w. FoundIs w t.region.start t.region.past) (sym keeps.0) tt
+      go (step.Stopped stop.Fault) keeps cause falls = subst (λ w. FoundIs who w t.region.start t.region.past) (sym keeps.0) tt
       go (step.Stopped stop.Memory) keeps cause falls = over o'.work keeps.0
       go (step.Stopped stop.JournalFull) keeps cause falls = over o'.work keeps.0
       go (step.Stopped (stop.NotWhole seen)) keeps cause falls = over o'.work keeps.0
@@ -359,9 +360,9 @@ module _ (s t : Seated) (o o' : OpenerState) where
       go (step.Stopped stop.ExpiryRange) keeps cause falls = over o'.work keeps.0
 
   -- and what it stopped for
-  step_stopped : (work : Work) (result : Step) (made : List Event) (before : Option Running) → FoundIs work t.region.start t.region.past → HasBegun work t.region.past →
+  step_stopped : (work : Work) (result : Step) (made : List Event) (before : Option Running) → FoundIs who work t.region.start t.region.past → HasBegun work t.region.past →
       FollowsWork work (option_map (going_on made) before) → KeepsWork (record o { work = work }) result o' → HasCause work result o'.work (seat_state s) (seat_state t) →
-      StoppedIs result before t.region.start t.region.past
+      StoppedIs who result before t.region.start t.region.past
   step_stopped work step.Idle made before found begun follows keeps cause = tt
   step_stopped work step.Going made before found begun follows keeps cause = tt
   step_stopped work step.Again made before found begun follows keeps cause = tt
@@ -371,8 +372,8 @@ module _ (s t : Seated) (o o' : OpenerState) where
   step_stopped Idle (step.Stopped why) made (Some r) found begun follows keeps cause = absurd follows
   step_stopped Ended (step.Stopped why) made (Some r) found begun follows keeps cause = absurd follows
   step_stopped (Runs c at) (step.Stopped why) made (Some r) found begun follows keeps cause =
-      holds_of_same why c.call r.call c.now r.now c.begun (length (changes_of r.past)) t.region.start t.region.past (sym follows.call) (sym follows.moment) (sym follows.begun)
-      (stopped_holds c at s t begun why cause found)
+      holds_of_same who why c.call r.call c.now r.now c.begun (length (changes_of r.past)) t.region.start t.region.past (sym follows.call) (sym follows.moment) (sym follows.begun)
+      (stopped_holds who c at s t one begun why cause found)
 
 idle_is : (work : Work) → FollowsWork work None → work ≡ Idle
 idle_is Idle follows = refl
@@ -518,6 +519,9 @@ module _ (who opened : ℕ) (start : Region) (past : List Event) (held : ℕ) (b
   begun_now : HasBegun o.work t.region.past
   begun_now = begun_later s t steps.makes o.work (begun_of o s tied)
 
+  quiet : stop_found o.work ≢ None → TakesNone who own
+  quiet = found_quiet o s.region.start s.region.past who m.own m.few (subst (Lawful s.region.start) grown (subst (λ x. Lawful x t.region.past) m.start tied'.told.agrees.lawful)) tied.at tied.holds
+
   -- a call that found no places had made these events
   met_full : (seat_state t).reserved who ≡ 0 → (count : ℕ) → n + 1 ≤ count → (work : Work) (b : Option Running) → before ≡ b → (result ≡ step.Idle → ⊥) → (seat_state s).holds ≡ lock_in o.holds work → IsAt o work →
       FollowsWork work (option_map (going_on made) b) → KeepsWork (record o { work = work }) result o' → HasReason work stop.JournalFull (seat_state s) (seat_state t) → MetFull who opened start past before count
@@ -581,8 +585,8 @@ module _ (who opened : ℕ) (start : Region) (past : List Event) (held : ℕ) (b
         answer = steps.answer;
         came = subst (λ r. CameTo who t.region.past held r result o') (going_twice own made before) came;
         fewer = step_fewer s t steps.makes first o.work o'.work n result tied'.told.agrees.lawful steps.falls st.fewer;
-        found = step_found s t o o' o.work result (moved_later s t steps.makes o.work st.found) begun_now steps.call steps.cause steps.falls;
-        stopped = step_stopped s t o o' o.work result made before (moved_later s t steps.makes o.work st.found) begun_now st.came.0 steps.call steps.cause;
+        found = step_found who s t refl o o' o.work result (moved_later who s t steps.makes o.work quiet st.found) begun_now steps.call steps.cause steps.falls;
+        stopped = step_stopped who s t refl o o' o.work result made before (moved_later who s t steps.makes o.work quiet st.found) begun_now st.came.0 steps.call steps.cause;
         live = live;
         open_to = open_now;
         saw = step_saw who s t o o' tied' sound.accepted live st.steady o.work held goes_by result (saw_moved s t steps.makes o.work st.saw) came steps.call steps.cause steps.falls;

@@ -171,7 +171,7 @@ module _ (stock left : Stock) (start : Region) (parts : List Part) (p q : PlaySt
           earlier = subst (λ r. AreEarlier who r (answers_in (outcomes_of grown))) (sym same) (subst (AreEarlier who _) joined ends.earlier);
           bounded = line_bounded who start (past_of parts) walks.made (holds_of who parts) (asked_of who parts) count (running who parts) o.work walks.came walks.next ended.outcome op.follows lawful came op.bounded
               (here (λ r past. LeavesFewer walks.came o.work walks.next.work count (file_size (region_after r past))) st.fewer) ended.at;
-          found = here (FoundIs walks.next.work) st.found;
+          found = here (FoundIs who walks.next.work) st.found;
           saw = here (FoundSaw walks.next.work) st.saw;
           unfull = st.unfull;
           marked = subst (HasMarked who step.Going walks.next.work) (sym same)
@@ -247,7 +247,7 @@ module _ (stock left : Stock) (start : Region) (parts : List Part) (p q : PlaySt
         reasoned = (
           at.reasoned,
           is_reasoned who start (record { line = Some (StepLine who count); made = walks.made; outcome = ended.outcome }) parts walks.came ended.at
-              (here (StoppedIs walks.came (running who parts)) st.stopped),
+              (here (StoppedIs who walks.came (running who parts)) st.stopped),
         );
         roomy = (
           at.roomy,
@@ -334,7 +334,7 @@ first_step stock left start parts p who o sound at lives =
       answer = tt;
       came = (subst (FollowsWork o.work) (sym (going_none (running who parts))) op.follows, op.holds);
       fewer = λ words fits. omega arith;
-      found = back (FoundIs o.work) op.found;
+      found = back (FoundIs who o.work) op.found;
       stopped = tt;
       live = subst NoneDies (sym at.past) at.live;
       open_to = at.open_to;

@@ -1,5 +1,6 @@
 -- A script that was played: what each line may make. Parts and events stand with the latest first.
 use Rattle.std.specs.Prelude.{All, ◌≡◌, ◌≢◌, ℕ, ◌+◌, ◌<◌, ◌≤◌, ◌⊎◌, Bool, true, false, List, [], ◌∷◌, ◌++◌, Option, Some, None, length, filter, nat_le, ◌&&◌, IsTrue, ⊤}
+use Rattle.std.specs.List.{AllByRecursion}
 use Rattle.change_log.specs.Settled.{AreBegun, AreOfCall}
 use Rattle.change_log.specs.declared.call.Answer.{Answer}
 use Rattle.change_log.specs.declared.call.Call.{Call}
@@ -33,7 +34,7 @@ use Rattle.script_lang.specs.declared.outcome.Outcome.{Outcome}
 use Rattle.script_lang.specs.declared.outcome.Outcome.TheVariants.{Answered, Blocked, Stopped}
 use Rattle.script_lang.specs.declared.outcome.Reason.{Reason}
 use Rattle.script_lang.specs.declared.outcome.Reason.TheVariants as reason
-use Rattle.mmkv_top.specs.Parts.{Part, past_of, lives, holds_of, locks_among, stores_among, strategies, Running, running, going_on}
+use Rattle.mmkv_top.specs.Parts.{Part, past_of, lives, holds_of, is_lock, locks_among, stores_among, strategies, Running, running, going_on}
 
 -- how many handlers of each strategy a stock has
 pub record Stock : Type 0 where
@@ -101,13 +102,19 @@ reason_said stop.ExpiryOff = Some reason.ExpiryOff
 reason_said stop.ExpiryRange = Some reason.ExpiryRange
 reason_said _ = None
 
--- a write of a moment, begun after so many changes, was refused for this: it was the first reason in the region as it stood then, and in the
--- map of the history
-pub record WasRefused (why : Stop) (asked : Call) (now begun : ℕ) (start : Region) (past : List Event) : Type 0 where
+-- this opener takes no lock among these events
+abbrev pub TakesNone : ℕ → List Event → Type 0
+TakesNone who events = AllByRecursion (λ e. e.who ≡ who → is_lock e.what ≡ false) events
+
+-- A write of a moment, begun after so many changes, was refused for this: it was the first reason in the region as it stood under the
+-- opener's last exclusive lock, and in the map of the history.
+pub record WasRefused (who : ℕ) (why : Stop) (asked : Call) (now begun : ℕ) (start : Region) (past : List Event) : Type 0 where
   pub later : List Event
   pub earlier : List Event
   pub is : later ++ earlier ≡ past
   pub since : begun ≤ length (changes_of earlier)
+  pub held : lock_of (locks_after earlier) who ≡ Some Exclusive
+  pub last : TakesNone who later
   pub first : IsAccepted start → Apart start earlier → refusal_of asked now (standing (region_after start earlier)) (map_after start earlier) ≡ Some why
 
 -- The last step of a call tried for a lock of the kind that the call takes, which this opener holds nothing of, and this is the least holder
@@ -168,7 +175,7 @@ AreHeld (p ∷ parts) = AreHeld parts × IsHeld p parts
 abbrev pub IsReasoned : Region → Part → List Part → Type 0
 IsReasoned start p parts =
     (c : Running) (who : ℕ) (r : Reason) → running who parts ≡ Some c → p.outcome ≡ Some (Stopped who r) →
-    (why : Stop) × (reason_said why ≡ Some r) × WasRefused why c.call c.now (length (changes_of c.past)) start (p.made ++ past_of parts)
+    (why : Stop) × (reason_said why ≡ Some r) × WasRefused who why c.call c.now (length (changes_of c.past)) start (p.made ++ past_of parts)
 
 -- each line's
 abbrev pub AreReasoned : Region → List Part → Type 0
@@ -209,10 +216,10 @@ pub record MetFullJournal (start : Region) (parts : List Part) (who count : ℕ)
   pub full : IsTooFull (length (strategies parts)) (made ++ past_of parts) asked
 
 -- one more opener asked for the place of its death. Other openers have so many places reserved for stores to come: none, unless one of them
--- holds exclusive
+-- holds exclusive and runs a write
 pub record MetNoPlace (parts : List Part) : Type 0 where
   pub reserved : ℕ
-  pub by_holder : 0 < reserved → (w : ℕ) × (lock_of (locks_after (past_of parts)) w ≡ Some Exclusive)
+  pub by_writer : 0 < reserved → (w : ℕ) × (c : Running) × (running w parts ≡ Some c) × (is_write c.call ≡ true) × (lock_of (locks_after (past_of parts)) w ≡ Some Exclusive)
   pub full : IsTooFull (length (strategies parts)) (past_of parts) (reserved + 1)
 
 -- a line for which the journal was too full

@@ -78,17 +78,17 @@ LeavesFewer (step.Blocked holder) first work count size = (words : ℕ) → size
 LeavesFewer _ first work count size = ⊤
 
 -- where the reason of a stop is one that is printed, the write was refused for it
-abbrev pub StopHolds : Stop → Asked → ℕ → ℕ → Region → List Event → Type 0
-StopHolds why asked now begun start past = IsTrue (is_some (reason_said why)) → WasRefused why asked now begun start past
+abbrev pub StopHolds : ℕ → Stop → Asked → ℕ → ℕ → Region → List Event → Type 0
+StopHolds who why asked now begun start past = IsTrue (is_some (reason_said why)) → WasRefused who why asked now begun start past
 
 -- so it is of a stop that is found, and of one that a step came to
-abbrev pub FoundIs : Work → Region → List Event → Type 0
-FoundIs (Runs c (Unlock (end.Stop why))) start past = StopHolds why c.call c.now c.begun start past
-FoundIs _ start past = ⊤
+abbrev pub FoundIs : ℕ → Work → Region → List Event → Type 0
+FoundIs who (Runs c (Unlock (end.Stop why))) start past = StopHolds who why c.call c.now c.begun start past
+FoundIs who _ start past = ⊤
 
-abbrev pub StoppedIs : Step → Option Running → Region → List Event → Type 0
-StoppedIs (step.Stopped why) (Some r) start past = StopHolds why r.call r.now (length (changes_of r.past)) start past
-StoppedIs _ before start past = ⊤
+abbrev pub StoppedIs : ℕ → Step → Option Running → Region → List Event → Type 0
+StoppedIs who (step.Stopped why) (Some r) start past = StopHolds who why r.call r.now (length (changes_of r.past)) start past
+StoppedIs who _ before start past = ⊤
 
 -- At an earlier moment the region showed no whole image. Where the start shows one, checksums don't tell payloads apart there.
 pub record SawNoImage (start : Region) (past : List Event) : Type 0 where
@@ -166,8 +166,8 @@ pub record Stepped (who opened : ℕ) (start : Region) (past : List Event) (held
   pub answer : OnAnswer last (λ a. IsAnswer a s.region.start s.region.past)
   pub came : CameTo who s.region.past held (option_map (going_on made) before) last o
   pub fewer : LeavesFewer last first o.work count (file_size (region_after s.region.start s.region.past))
-  pub found : FoundIs o.work s.region.start s.region.past
-  pub stopped : StoppedIs last before s.region.start s.region.past
+  pub found : FoundIs who o.work s.region.start s.region.past
+  pub stopped : StoppedIs who last before s.region.start s.region.past
   pub live : NoneDies s.region.past
   pub open_to : IsOpenTo opened s.region
   pub saw : FoundSaw o.work s.region.start s.region.past
@@ -250,7 +250,7 @@ pub record IsOpened (start : Region) (parts : List Part) (who : ℕ) (o : Opener
   pub holds : o.holds ≡ holds_of who parts
   pub earlier : AreEarlier who (running who parts) (answers_in (outcomes_of parts))
   pub bounded : IsBounded o.work (asked_of who parts) (file_size (region_after start (past_of parts)))
-  pub found : FoundIs o.work start (past_of parts)
+  pub found : FoundIs who o.work start (past_of parts)
   pub saw : FoundSaw o.work start (past_of parts)
   pub unfull : IsUnfull o.work
   pub stored : HasStored step.Going o.work (running who parts)

@@ -199,6 +199,7 @@ module _ (o : OpenerState) (running next : Running) (old : Loading) (result : St
     no_reason : (z : Shown) → ((n : ℕ) → z ≢ seen.Whole n) → found.shown ≡ z → HasReason (Runs running (Load old)) (why.NotWhole z) s t
     no_reason z other e = (
       tt,
+      tt,
       told_and t.told (λ h. (shown (region_after h.start h.past) ≡ found.shown) × (Apart h.start h.past → AtRest h.start h.past)) (λ h. IsAccepted (region_after h.start h.past))
           (λ h. (shown (region_after h.start h.past) ≡ z) × ((n : ℕ) → z ≢ seen.Whole n) × (Apart h.start h.past → AtRest h.start h.past) × IsAccepted (region_after h.start h.past))
           (λ h is ok. (is.0 ∙ e, other, is.1, ok)) seen_at_rest accepted,
@@ -228,5 +229,5 @@ refused_ends (fault.Flags n) = tt
 -- a record that is refused is the reason to stop
 pub refused_reason : (running : Running) (old : Loading) (f : RecordFault) (s t : ShareState) → loads_of old ≡ 9 → OnTold t.told (λ h. IsRefusedFor f (region_after h.start h.past)) →
     HasReason (Runs running (Load old)) (stop_of f) s t
-refused_reason running old (fault.Version n) s t ten told = (ten, told)
-refused_reason running old (fault.Flags n) s t ten told = (ten, told)
+refused_reason running old (fault.Version n) s t ten told = (ten, tt, told)
+refused_reason running old (fault.Flags n) s t ten told = (ten, tt, told)

@@ -54,13 +54,13 @@ named running loading why.JournalFull s t (inl is) = absurd (let e = is.1 in cc)
 named running loading why.JournalFull s t (inr is) = absurd is
 named running loading (why.NotWhole seen) s t is =
     accepted_told t _
-    (told_map t.told (λ h. StopIs running (why.NotWhole seen) h.start h.past) (λ h. IsAccepted (region_after h.start h.past)) (λ h found. found.3) is.1)
+    (told_map t.told (λ h. StopIs running (why.NotWhole seen) h.start h.past) (λ h. IsAccepted (region_after h.start h.past)) (λ h found. found.3) is.2)
 named running loading (why.Version n) s t is =
     told_map t.told (λ h. StopIs running (why.Version n) h.start h.past) (λ h. IfRefused (region_after h.start h.past) (λ fault. IsNamed fault (Some (why.Version n))))
-    (λ h found. subst (λ c. IfErr c (λ fault. IsNamed fault (Some (why.Version n)))) (sym found) (inl refl)) is.1
+    (λ h found. subst (λ c. IfErr c (λ fault. IsNamed fault (Some (why.Version n)))) (sym found) (inl refl)) is.2
 named running loading (why.Flags n) s t is =
     told_map t.told (λ h. StopIs running (why.Flags n) h.start h.past) (λ h. IfRefused (region_after h.start h.past) (λ fault. IsNamed fault (Some (why.Flags n))))
-    (λ h found. subst (λ c. IfErr c (λ fault. IsNamed fault (Some (why.Flags n)))) (sym found) (inl refl)) is.1
+    (λ h found. subst (λ c. IfErr c (λ fault. IsNamed fault (Some (why.Flags n)))) (sym found) (inl refl)) is.2
 named running loading (why.Full need) s t is = absurd is.0
 named running loading why.SequenceEnd s t is = absurd is.0
 named running loading why.ExpiryOff s t is = absurd is.0

@@ -218,6 +218,9 @@ module _ (o : OpenerState) (running next : Running) (size : ℕ) (s t : ShareSta
         told_of None kept sum not = absurd (tied.at.2.0 kept)
         told_of (Some i) kept sum not = found i kept sum not
 
+        held : t.holds ≡ Some Exclusive
+        held = goes.after.holds ∙ tied.holds ∙ tied.at.2.1
+
         other : (x : Stop) → (x ≡ why.Memory → ⊥) → OnTold t.told (λ h. IsAccepted h.start → Apart h.start h.past →
             (x ≡ why.Memory) ⊎ (refusal_of running.call running.now (standing (region_after h.start h.past)) (map_after h.start h.past) ≡ Some x)) → OnTold t.told (IsReason running x)
         other x differs told = told_map t.told _ (IsReason running x) (λ h f ok apart. elim (f ok apart) [ inl e ↦ absurd (differs e) | inr e ↦ e ]) told
@@ -230,7 +233,7 @@ module _ (o : OpenerState) (running next : Running) (size : ℕ) (s t : ShareSta
         by (why.NotWhole seen) is told = absurd is
         by (why.Version n) is told = absurd is
         by (why.Flags n) is told = absurd is
-        by (why.Full need) is told = (tt, other (why.Full need) (λ e. absurd cc) told)
-        by why.SequenceEnd is told = (tt, other why.SequenceEnd (λ e. absurd cc) told)
-        by why.ExpiryOff is told = (tt, other why.ExpiryOff (λ e. absurd cc) told)
-        by why.ExpiryRange is told = (tt, other why.ExpiryRange (λ e. absurd cc) told)
+        by (why.Full need) is told = (tt, held, other (why.Full need) (λ e. absurd cc) told)
+        by why.SequenceEnd is told = (tt, held, other why.SequenceEnd (λ e. absurd cc) told)
+        by why.ExpiryOff is told = (tt, held, other why.ExpiryOff (λ e. absurd cc) told)
+        by why.ExpiryRange is told = (tt, held, other why.ExpiryRange (λ e. absurd cc) told)

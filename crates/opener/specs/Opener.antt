@@ -334,12 +334,20 @@ IsFoundAt Size ExpiryOff = ⊤
 IsFoundAt Size ExpiryRange = ⊤
 IsFoundAt _ _ = ⊥
 
+-- a write is refused by one that holds exclusive
+abbrev pub IsHeldFor : Stop → ShareState → Type 0
+IsHeldFor (Full need) t = t.holds ≡ Some Exclusive
+IsHeldFor SequenceEnd t = t.holds ≡ Some Exclusive
+IsHeldFor ExpiryOff t = t.holds ≡ Some Exclusive
+IsHeldFor ExpiryRange t = t.holds ≡ Some Exclusive
+IsHeldFor _ t = ⊤
+
 -- why a call stops
 abbrev pub HasReason : Work → Stop → ShareState → ShareState → Type 0
 HasReason old Fault s t = Fails s t
 HasReason old Memory s t = ⊤
 HasReason old JournalFull s t = ((kind : LockKind) × IsTried old kind × StopsTrying kind stop.JournalFull s t) ⊎ HasNoPlaces old s t
-HasReason (Runs running stage) why s t = IsFoundAt stage why × OnTold t.told (λ h. StopIs running why h.start h.past)
+HasReason (Runs running stage) why s t = IsFoundAt stage why × IsHeldFor why t × OnTold t.told (λ h. StopIs running why h.start h.past)
 HasReason _ why s t = ⊥
 
 -- a stop has its reason where it is found, and after that its call only gives its lock up
