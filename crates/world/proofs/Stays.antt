@@ -1,5 +1,5 @@
 -- What one opener knows of the region stays so while another makes a call.
-use Rattle.std.proofs.Common.{◌≡◌, ◌≢◌, ℕ, ◌≤◌, Bool, true, false, not, ◌||◌, List, [], ◌∷◌, ◌++◌, length, refl, sym, ◌∙◌, subst, ap, inl, inr, ◌⊎◌, arith}
+use Rattle.std.proofs.Common.{◌≡◌, ◌≢◌, ℕ, ◌≤◌, not, ◌||◌, List, [], ◌∷◌, ◌++◌, length, refl, sym, ◌∙◌, subst, ap, inl, inr}
 use Rattle.std.specs.Prelude.{Option, Some, None}
 use Rattle.change_log.specs.EachCaller.{answers_of}
 use Rattle.change_log.specs.declared.call.Answer.{Answer}
@@ -12,14 +12,14 @@ use Rattle.region_words.specs.Owing.{AreStorable, AreWithin, Comes, IsOwing}
 use Rattle.region_words.specs.Past.{NoneOf, changes_of, has_died, region_after}
 use Rattle.region_words.specs.Region.{Region}
 use Rattle.region_words.specs.Rows.{Row}
-use Rattle.region_words.specs.Share.{Agrees, Left, After, ShareState, made_by}
+use Rattle.region_words.specs.Share.{Agrees, ShareState, made_by}
 use Rattle.region_words.specs.Told.{History}
 use Rattle.region_words.specs.declared.event.Event.{Event}
 use Rattle.region_words.specs.declared.event.What.{What}
 use Rattle.region_words.proofs.Coming.{coming_later}
 use Rattle.region_words.proofs.Later.{died_others, lock_others, reaches_later}
 use Rattle.region_words.proofs.ReadLaws.{apart_front}
-use Rattle.opener.specs.Opener.{Facts, Knows, MakesOne, Owes, Tied}
+use Rattle.opener.specs.Opener.{Facts, MakesOne, Owes, Tied}
 use Rattle.opener.specs.Settles.{AreSettled}
 use Rattle.opener.specs.State.{OpenerState}
 use Rattle.opener.specs.Writes.{OwesPlan, first_events}
