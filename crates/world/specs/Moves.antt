@@ -7,7 +7,7 @@ use Rattle.region_words.specs.Apart.{Apart}
 use Rattle.region_words.specs.Local.{LacksPlaces, Seated, account_of, after_admission, with_account}
 use Rattle.region_words.specs.Outcome.{AtRest, ShowsHistory}
 use Rattle.region_words.specs.Past.{NoneDies, changes_of, region_after}
-use Rattle.region_words.specs.Region.{base}
+use Rattle.region_words.specs.Region.{IsAccepted, base}
 use Rattle.region_words.specs.declared.places.AdmitStop.{AdmitStop}
 use Rattle.region_words.specs.declared.places.AdmitStop.TheVariants as admit
 use Rattle.opener.specs.Adds.{AddsTo}
