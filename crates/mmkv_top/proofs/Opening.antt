@@ -14,7 +14,6 @@ use Rattle.handlers.specs.declared.handler.Strategy.TheVariants.{Discard, Recove
 use Rattle.opener.specs.Begins.{Begins, call_refusal, refusal_at}
 use Rattle.opener.specs.Opener.{is_ended}
 use Rattle.opener.specs.Bound.{steps_left}
-use Rattle.opener.specs.Calls.{IsBuilt}
 use Rattle.opener.specs.State.{OpenerState}
 use Rattle.opener.specs.declared.calls.Stop.{Stop}
 use Rattle.opener.specs.declared.calls.Stop.TheVariants as stop

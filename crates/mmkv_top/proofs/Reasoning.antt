@@ -37,6 +37,8 @@ said_printed (stop.Full need) r e = subst (λ o. IfSome o IsPrinted) e tt
 said_printed stop.SequenceEnd r e = subst (λ o. IfSome o IsPrinted) e tt
 said_printed stop.ExpiryOff r e = subst (λ o. IfSome o IsPrinted) e tt
 said_printed stop.ExpiryRange r e = subst (λ o. IfSome o IsPrinted) e tt
+said_printed stop.AlreadyOn r e = subst (λ o. IfSome o IsPrinted) e tt
+said_printed stop.AlreadyOff r e = subst (λ o. IfSome o IsPrinted) e tt
 said_printed stop.Fault r e = absurd cc
 said_printed stop.Memory r e = absurd cc
 said_printed stop.JournalFull r e = absurd cc
@@ -81,6 +83,8 @@ module _ (c : Call) (at : Stage) (s t : Seated) (since : c.begun ≤ length (cha
   reason_holds stop.SequenceEnd reason said = record { later = []; earlier = t.region.past; is = refl; since = since; first = reason }
   reason_holds stop.ExpiryOff reason said = record { later = []; earlier = t.region.past; is = refl; since = since; first = reason }
   reason_holds stop.ExpiryRange reason said = record { later = []; earlier = t.region.past; is = refl; since = since; first = reason }
+  reason_holds stop.AlreadyOn reason said = record { later = []; earlier = t.region.past; is = refl; since = since; first = reason }
+  reason_holds stop.AlreadyOff reason said = record { later = []; earlier = t.region.past; is = refl; since = since; first = reason }
   reason_holds stop.Fault reason said = absurd cc
   reason_holds stop.Memory reason said = absurd cc
   reason_holds stop.JournalFull reason said = absurd cc

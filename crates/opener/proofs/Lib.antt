@@ -19,6 +19,8 @@ pub mod Noticed
 pub mod PlanEvents
 pub mod Planned
 pub mod Planning
+pub mod RowEvents
+pub mod Turns
 pub mod QuickReads
 pub mod Quiet
 pub mod Ready

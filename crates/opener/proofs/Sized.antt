@@ -15,7 +15,7 @@ use Rattle.region_words.specs.Standings.{standing_of}
 use Rattle.region_words.specs.Told.{History, OnTold}
 use Rattle.region_words.specs.Share.{ShareState, Goes, loaded}
 use Rattle.region_words.specs.declared.event.Event.{Event}
-use Rattle.region_words.proofs.Regions.{lawful_region}
+use Rattle.region_words.proofs.Regions.{lawful_region, lawful_accepted}
 use Rattle.region_words.proofs.Telling.{told_map}
 use Rattle.loader.specs.declared.loaded.Image.{Image}
 use Rattle.opener.specs.State.{OpenerState}
@@ -63,8 +63,8 @@ can_plain call.Clear can = tt
 can_plain (call.Get key) can = absurd can
 can_plain call.Keys can = absurd can
 can_plain call.Count can = absurd can
-can_plain (call.Enable seconds) can = absurd can
-can_plain call.Disable can = absurd can
+can_plain (call.Enable seconds) can = tt
+can_plain call.Disable can = tt
 can_plain call.Hold can = absurd can
 can_plain call.Release can = absurd can
 can_plain call.Sync can = absurd can
@@ -80,6 +80,8 @@ is_seen (why.Full need) is = tt
 is_seen why.SequenceEnd is = tt
 is_seen why.ExpiryOff is = tt
 is_seen why.ExpiryRange is = tt
+is_seen why.AlreadyOn is = tt
+is_seen why.AlreadyOff is = tt
 
 -- this is the reason for which the region's image is refused
 abbrev pub IsReason : Running → Stop → History → Type 0
@@ -101,6 +103,7 @@ beside_of o running i size start past kept ok region lawful lock facts sound sum
       sum = sum;
       file = file;
       firm = image.firm;
+      accepted = λ ok. lawful_accepted start past ok lawful;
       calm = λ apart. facts.rests lock refl apart;
       now = λ apart.
           let s = shows ok apart in
@@ -234,3 +237,5 @@ module _ (o : OpenerState) (running next : Running) (size : ℕ) (s t : ShareSta
         by why.SequenceEnd is told = other why.SequenceEnd (λ e. absurd cc) told
         by why.ExpiryOff is told = other why.ExpiryOff (λ e. absurd cc) told
         by why.ExpiryRange is told = other why.ExpiryRange (λ e. absurd cc) told
+        by why.AlreadyOn is told = other why.AlreadyOn (λ e. absurd cc) told
+        by why.AlreadyOff is told = other why.AlreadyOff (λ e. absurd cc) told

@@ -3,7 +3,6 @@ ghost use Rattle.std.specs.Prelude.{◌≡◌, false, None, IfOk, IfSome};
 ghost use Rattle.region_words.specs.Local.{seat_state};
 ghost use Rattle.region_words.specs.Region.{IsAccepted};
 ghost use Rattle.region_words.specs.Told.{OnTold};
-ghost use Rattle.opener.specs.Calls.{IsBuilt};
 ghost use Rattle.opener.specs.Opener.{Tied};
 
 use change_log::Call;
@@ -77,8 +76,7 @@ fn finish<S: Share>(opener: &mut Opener, share: &mut S, most: u32) -> Step
 
 // A whole call.
 pub(crate) fn ask<S: Share>(opener: &mut Opener, share: &mut S, call: Call) -> End
-    requires tied { Tied opener.old (S.state share.old) }
-    requires built { IsBuilt call }
+    requires { Tied opener.old (S.state share.old) }
     ensures { Tied opener.new (S.state share.new) }
 {
     match opener.begin(share, call, 100) {
@@ -95,7 +93,6 @@ pub(crate) fn first_end(
     fails: &[u64],
     call: Call,
 ) -> Option<End>
-    requires { IsBuilt call }
 {
     let mut seat = seat_at(alloc, body, meta, fails)?;
     let mut opener = opener_of(alloc, &seat)?;
@@ -105,7 +102,6 @@ pub(crate) fn first_end(
 }
 
 pub(crate) fn get(alloc: Global) -> Result<Call, Memory>
-    ensures { IfOk result IsBuilt }
 {
     Ok(Call::Get {
         key: Bytes::copy_of(alloc, b"k")?,
@@ -113,7 +109,6 @@ pub(crate) fn get(alloc: Global) -> Result<Call, Memory>
 }
 
 pub(crate) fn put(alloc: Global, seconds: u32) -> Result<Call, Memory>
-    ensures { IfOk result IsBuilt }
 {
     Ok(Call::Put {
         key: Bytes::copy_of(alloc, b"k")?,

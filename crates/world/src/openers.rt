@@ -2,7 +2,6 @@
 ghost use Rattle.std.specs.Prelude.{◌≡◌, ◌≢◌, ◌+◌, ◌++◌, ◌∷◌, [], ◌<◌, ◌≤◌, None, IfErr, IfOk, IfSome, OnErr, OnOk, false, length, slice_get, slice_set, vec_capacity, vec_len};
 ghost use Rattle.region_words.specs.Local.{seat_state};
 ghost use Rattle.region_words.specs.Region.{IsAccepted};
-ghost use Rattle.opener.specs.Calls.{IsBuilt};
 ghost use Rattle.opener.specs.Opener.{Tied, is_ended};
 ghost use Rattle.opener.specs.Settles.{answers_by};
 ghost use Rattle.opener.specs.State.{OpenerState};
@@ -102,7 +101,6 @@ pub(crate) fn begin_at(
     requires world { IsWorld seat.old.region openers.old.items answers.now.items }
     requires inside { place < vec_len openers.old }
     requires alive { (o : OpenerState) → slice_get openers.old.items place ≡ Some o → is_ended o.work ≡ false }
-    requires built { IsBuilt call }
     ensures world { IsWorld seat.new.region openers.new.items answers.now.items }
     ensures ok { OnOk result (Begun (place + 1) call now (world_of seat.old openers.old.items answers.now.items) (world_of seat.new openers.new.items answers.now.items)) }
     ensures err { IfErr result (λ why. IsNotBegun why (place + 1) call (world_of seat.old openers.old.items answers.now.items)) }
