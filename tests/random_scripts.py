@@ -90,7 +90,7 @@ def kind_and_value(draw: random.Random) -> str:
 
 
 def call(draw: random.Random, is_holding: bool) -> str:
-    name = draw.choice(['get', 'get', 'get', 'put', 'put', 'put', 'put', 'remove', 'keys', 'count', 'sync', 'clear', 'hold', 'release'])
+    name = draw.choice(['get', 'get', 'get', 'put', 'put', 'put', 'put', 'remove', 'keys', 'count', 'sync', 'clear', 'enable', 'disable', 'hold', 'release'])
     if name == 'release' and not is_holding:
         name = 'hold'
     if name in ('get', 'remove'):
@@ -98,6 +98,8 @@ def call(draw: random.Random, is_holding: bool) -> str:
     if name == 'put':
         seconds = draw.choice([0, 0, 0, 0, 1, 100, LAST])
         return f'put {hexed(draw, key(draw) or b"a")} {kind_and_value(draw)} {seconds}'
+    if name == 'enable':
+        return f'enable {draw.choice([0, 0, 1, 100, LAST])}'
     if name == 'clear' and draw.random() < 0.5:
         return 'keys'
     return name
@@ -111,7 +113,8 @@ def refused(draw: random.Random, openers: int) -> str:
         'begin 1 1 get', 'begin 1 1 get 6', 'begin 1 1 get 6g', 'begin 1 1 get -', 'begin 1 1 get 61 62', 'begin 1 1 put 61 raw - 0',
         'begin 1 1 put - raw 61 0', 'begin 1 1 put 61 bool 1 0', 'begin 1 1 put 61 i32 2147483648 0', 'begin 1 1 put 61 i32 -0 0',
         'begin 1 1 put 61 u32 -1 0', 'begin 1 1 put 61 u64 18446744073709551616 0', 'begin 1 1 put 61 u32 007 0', 'begin 1 1 put 61 text abc 0',
-        'begin 1 1 put 61 raw 61', 'begin 1 1 put 61 float 1 0', 'begin 1  1 count', 'begin 1 1 count\r', 'begin 1 1 enable 0', 'begin 1 1 disable',
+        'begin 1 1 put 61 raw 61', 'begin 1 1 put 61 float 1 0', 'begin 1  1 count', 'begin 1 1 count\r', 'begin 1 1 enable',
+        'begin 1 1 enable 4294967296', 'begin 1 1 enable 00', 'begin 1 1 enable 0 0', 'begin 1 1 disable 0', 'begin 1 1 Disable',
         'die 1', 'die 1 ffffffff', 'call 1 1 count', 'count', 'begin 1 1 drop', '\x01', 'é',
     ])
 

@@ -42,6 +42,9 @@ CHECKSUM, VERSION, SEQUENCE, RECORD_SIZE, LAST_SIZE, LAST_CHECKSUM, FLAGS_LOW, F
 # word of the data file that holds the payload's size
 HEADER = 0
 
+# a size that fits no file
+CLOSED = 0xFFFFFFFF
+
 # what a payload that isn't empty begins with when this program's rules write it
 PREAMBLE = b'\xff\xff\xff\x07'
 
@@ -278,14 +281,16 @@ class Region:
         self.use_place()
         self.data.extend(bytes(size - len(self.data)))
 
-    def store_data(self, word: int, value: int) -> None:
-        self.use_place()
-        struct.pack_into('<I', self.data, 4 * word, value)
+    def store_data(self, word: int, value: int, change: Optional[Change] = None) -> None:
+        self.store(self.data, word, value, change)
 
     def store_meta(self, word: int, value: int, change: Optional[Change] = None) -> None:
+        self.store(self.meta, word, value, change)
+
+    def store(self, file: bytearray, word: int, value: int, change: Optional[Change]) -> None:
         """A store may be the one that commits a change."""
         self.use_place()
-        struct.pack_into('<I', self.meta, 4 * word, value)
+        struct.pack_into('<I', file, 4 * word, value)
         if change:
             self.changes.append(change)
 
@@ -590,6 +595,8 @@ class Opener:
         self.image.file_size = file_size
         if call.name == 'clear':
             events = self.image_events({}, 0, file_size, Change(self.who, 'clear'))
+        elif call.name in ('enable', 'disable'):
+            events = self.switch_events(call, now, file_size)
         else:
             events = self.item_events(call, now, file_size)
         yield (self.region.reserve, len(events))
@@ -643,15 +650,8 @@ class Opener:
         one too."""
         image = self.image
         payload = packed(pairs, image.expires)
-        wanted = 4 + len(payload) + need
-        if wanted > LARGEST_DATA:
-            raise Stop(f'full {wanted} {LARGEST_DATA}')
-        if image.sequence == LAST_SEQUENCE:
-            raise Stop('sequence-end')
+        events = self.first_events(len(payload), need, len(pairs), file_size)
         size, checksum = len(payload), zlib.crc32(payload)
-        new_file = grown_size(size, need, len(pairs), file_size)
-        events: List[Operation] = [(self.region.grow, new_file)] if new_file > file_size else []
-        events.append((self.region.store_meta, SEQUENCE, image.sequence + 1))
         if image.version == 0:
             events.append((self.region.store_meta, VERSION, 3))
         events += self.word_stores(payload, 0)
@@ -664,6 +664,57 @@ class Opener:
         ]
         self.image = Image(pairs, bytearray(payload), checksum, image.sequence + 1, image.version or 3, image.expires, new_file)
         return events
+
+    def first_events(self, size: int, need: int, pairs: int, file_size: int) -> List[Operation]:
+        """What comes first where an image of that many bytes is put in the old one's place: a growth, where it is needed, and the sequence."""
+        wanted = 4 + size + need
+        if wanted > LARGEST_DATA:
+            raise Stop(f'full {wanted} {LARGEST_DATA}')
+        if self.image.sequence == LAST_SEQUENCE:
+            raise Stop('sequence-end')
+        new_file = grown_size(size, need, pairs, file_size)
+        events: List[Operation] = [(self.region.grow, new_file)] if new_file > file_size else []
+        return events + [(self.region.store_meta, SEQUENCE, self.image.sequence + 1)]
+
+    def switch_events(self, call: Call, now: int, file_size: int) -> List[Operation]:
+        """The other flag, and an image of the pairs under it. All three sizes are closed before the first word of the payload, and the
+        header opens them again."""
+        pairs, act = self.enabled(call, now) if call.name == 'enable' else self.disabled(now)
+        expires = call.name == 'enable'
+        payload = packed(pairs, expires)
+        size, checksum = len(payload), zlib.crc32(payload)
+        events = self.first_events(size, 0, len(pairs), file_size) + [
+            (self.region.store_meta, VERSION, 4),
+            (self.region.store_meta, RECORD_SIZE, CLOSED),
+            (self.region.store_data, HEADER, CLOSED),
+            (self.region.store_meta, LAST_SIZE, CLOSED),
+        ]
+        events += self.word_stores(payload, 0)
+        events += [
+            (self.region.store_meta, FLAGS_LOW, int(expires)),
+            (self.region.store_meta, CHECKSUM, checksum),
+            (self.region.store_meta, LAST_CHECKSUM, checksum),
+            (self.region.store_data, HEADER, size, Change(self.who, act)),
+            (self.region.store_meta, RECORD_SIZE, size),
+            (self.region.store_meta, LAST_SIZE, size),
+        ]
+        self.image = Image(pairs, bytearray(payload), checksum, self.image.sequence + 1, 4, expires)
+        return events
+
+    def enabled(self, call: Call, now: int) -> Tuple[Pairs, str]:
+        """Each pair lives for so many seconds more, or for ever where that is 0."""
+        if self.image.expires:
+            raise Stop('already-on')
+        if now + call.seconds > 0xFFFFFFFF:
+            raise Stop('expiry-range')
+        expiry = now + call.seconds if call.seconds else 0
+        return {key: Held(held.value, expiry) for key, held in self.image.pairs.items()}, f'enable {now} {call.seconds}'
+
+    def disabled(self, now: int) -> Tuple[Pairs, str]:
+        """What has expired is dropped, and the other pairs live for ever."""
+        if not self.image.expires:
+            raise Stop('already-off')
+        return {key: Held(held.value, 0) for key, held in self.image.pairs.items() if held.live_at(now)}, f'disable {now}'
 
     def word_stores(self, payload: bytes | bytearray, first: int) -> List[Operation]:
         """Stores of the payload's words from the word of that number on; the bytes behind the payload's end in its last word are 0."""
@@ -767,7 +818,9 @@ def parse_call(words: List[bytes]) -> Call:
         return Call(name.decode(), key=hex_bytes(words[1]))
     if name == b'put' and len(words) == 5 and words[2] in ENCODERS:
         return Call('put', hex_bytes(words[1]), ENCODERS[words[2]](words[3]), number(words[4]))
-    if name in (b'clear', b'keys', b'count', b'hold', b'release', b'sync') and len(words) == 1:
+    if name == b'enable' and len(words) == 2:
+        return Call('enable', seconds=number(words[1]))
+    if name in (b'clear', b'keys', b'count', b'disable', b'hold', b'release', b'sync') and len(words) == 1:
         return Call(name.decode())
     raise BadLine
 
@@ -800,6 +853,8 @@ def call_text(call: Call) -> str:
         return f'put {hex_text(call.key)} {hex_text(call.value)} {call.seconds}'
     if call.name in ('get', 'remove'):
         return f'{call.name} {hex_text(call.key)}'
+    if call.name == 'enable':
+        return f'enable {call.seconds}'
     return call.name
 
 

@@ -55,7 +55,7 @@ disabling s m who now = switching_by s false m who (act.Disable now)
 abbrev pub pack_refusal : Standing → Bool → Map → Option SwitchStop
 pack_refusal s flag m =
     if not (is_some (size_by s flag m 0)) then Some (why.Full (rewrite_size (packed_size flag m) 0))
-    else (if s.sequence == 0xffffffff then Some why.SequenceEnd else None)
+    else (if not (nat_lt s.sequence 0xffffffff) then Some why.SequenceEnd else None)
 
 -- the first reason for which the expiry isn't switched on, or off, where the map m stands
 abbrev pub enable_refusal : Standing → Map → (now seconds : ℕ) → Option SwitchStop

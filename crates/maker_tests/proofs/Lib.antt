@@ -1,2 +1,3 @@
 pub mod AppendSample
 pub mod WriteBackSample
+pub mod SwitchSample

@@ -43,7 +43,7 @@ sample = record { data_bytes = filled_up []; meta_bytes = filled_up [] }
 abbrev pub known : Standing
 known = record { sequence = 0; version = 0; flag = false; size = 0; checksum = 0; tail = 0; file_size = 4096 }
 
-abbrev lock : List Event
+abbrev pub lock : List Event
 lock = event_of 1 (Lock Exclusive) ∷ []
 
 abbrev pub change : Change
@@ -72,7 +72,7 @@ pub writes : (rewriting known fin.empty change 7).events ≡ stores
 unfolding grown_size crc
 writes = rw (packed-empty false, fin.len-empty (slice_cmp nat_cmp) ValueUntil) refl
 
-shows : shown sample ≡ Whole 0
+pub shows : shown sample ≡ Whole 0
 unfolding shown crc read_payload length_at
 shows = refl
 
@@ -104,7 +104,7 @@ begins : MayBegin sample fin.empty None (Pack 100 7)
 unfolding shortest
 begins = ((0, shows, λ room. absurd (omega (arith, room.0))), (item, appendable, refl), (lit< tt, fits))
 
-no_pairs : map_after sample lock ≡ fin.empty
+pub no_pairs : map_after sample lock ≡ fin.empty
 unfolding shown crc read_payload length_at
 no_pairs = refl
 

@@ -1,5 +1,5 @@
-//! Tests of loads, appends and write-backs. They stand beside `loader`, `appender` and `write_back`, since a crate that has tests
-//! is proved a second time with them.
+//! Tests of loads, appends, write-backs and switches of the expiry. They stand beside `loader`, `appender`, `write_back` and
+//! `expiry_switch`, since a crate that has tests is proved a second time with them.
 #![tactic(auto)]
 
 #[cfg(test)]
@@ -10,5 +10,7 @@ mod loads;
 mod partials;
 #[cfg(test)]
 mod seen;
+#[cfg(test)]
+mod switches;
 #[cfg(test)]
 mod write_backs;

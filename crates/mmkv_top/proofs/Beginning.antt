@@ -16,7 +16,6 @@ use Rattle.handlers.specs.declared.handler.Strategy.TheVariants.{Discard, Recove
 use Rattle.opener.specs.Begins.{Begins, call_refusal, refusal_at}
 use Rattle.opener.specs.Opener.{is_ended}
 use Rattle.opener.specs.Bound.{steps_left}
-use Rattle.opener.specs.Calls.{IsBuilt}
 use Rattle.opener.specs.State.{OpenerState}
 use Rattle.opener.specs.declared.calls.Stop.{Stop}
 use Rattle.opener.specs.declared.calls.Stop.TheVariants as stop
@@ -160,7 +159,7 @@ begun_follows call now n past old new is b =
     subst (λ (x : OpenerState). FollowsWork x.work (Some (record { call = call; now = now; past = past; since = [] }))) (sym b.work)
     (record { call = refl; moment = refl; begun = is; stores = refl; locks = refl })
 
-module _ (stock left : Stock) (start : Region) (parts : List Part) (p q : PlayState) (who now : ℕ) (call : Asked) (o next : OpenerState) (built : IsBuilt call) (sound : IsSound q.world)
+module _ (stock left : Stock) (start : Region) (parts : List Part) (p q : PlayState) (who now : ℕ) (call : Asked) (o next : OpenerState) (sound : IsSound q.world)
     (at : IsAt stock left start parts p) (b : BeginsCall who call now o next p.world q.world) (text : q.text ≡ p.text) where
   op : IsOpened start parts who o
   op = opened_at stock left start parts p who o at b.lives

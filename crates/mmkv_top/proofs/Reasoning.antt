@@ -48,6 +48,8 @@ said_printed (stop.Full need) r e = subst (λ o. IfSome o IsPrinted) e tt
 said_printed stop.SequenceEnd r e = subst (λ o. IfSome o IsPrinted) e tt
 said_printed stop.ExpiryOff r e = subst (λ o. IfSome o IsPrinted) e tt
 said_printed stop.ExpiryRange r e = subst (λ o. IfSome o IsPrinted) e tt
+said_printed stop.AlreadyOn r e = subst (λ o. IfSome o IsPrinted) e tt
+said_printed stop.AlreadyOff r e = subst (λ o. IfSome o IsPrinted) e tt
 said_printed stop.Fault r e = absurd cc
 said_printed stop.Memory r e = absurd cc
 said_printed stop.JournalFull r e = absurd cc
@@ -148,6 +150,8 @@ module _ (who : ℕ) (c : Call) (at : Stage) (s t : Seated) (one : t.who ≡ who
   reason_holds stop.SequenceEnd reason said = refused stop.SequenceEnd reason.1 reason.2
   reason_holds stop.ExpiryOff reason said = refused stop.ExpiryOff reason.1 reason.2
   reason_holds stop.ExpiryRange reason said = refused stop.ExpiryRange reason.1 reason.2
+  reason_holds stop.AlreadyOn reason said = refused stop.AlreadyOn reason.1 reason.2
+  reason_holds stop.AlreadyOff reason said = refused stop.AlreadyOff reason.1 reason.2
   reason_holds stop.Fault reason said = absurd cc
   reason_holds stop.Memory reason said = absurd cc
   reason_holds stop.JournalFull reason said = absurd cc

@@ -43,6 +43,8 @@ stop_later (stop.Full need) start more past h = tt
 stop_later stop.SequenceEnd start more past h = tt
 stop_later stop.ExpiryOff start more past h = tt
 stop_later stop.ExpiryRange start more past h = tt
+stop_later stop.AlreadyOn start more past h = tt
+stop_later stop.AlreadyOff start more past h = tt
 
 pub saw_still : (work : Work) (start : Region) (more past : List Event) → FoundSaw work start past → FoundSaw work start (more ++ past)
 saw_still work start more past h = if_some (stop_found work) (λ why is. stop_later why start more past) h
@@ -79,6 +81,8 @@ module _ (o : OpenerState) (s t : Seated) (tied : Tied o (seat_state t)) (ok : I
   stop_saw c at stop.SequenceEnd steady h = tt
   stop_saw c at stop.ExpiryOff steady h = tt
   stop_saw c at stop.ExpiryRange steady h = tt
+  stop_saw c at stop.AlreadyOn steady h = tt
+  stop_saw c at stop.AlreadyOff steady h = tt
 
   -- it is stopped for what it finds, or for what was found before
   pub stopped_saw : (c : Call) (at : Stage) (found : Option Stop) (why : Stop) → s.region.failing.listed ≡ [] → IfSome found (λ w. StopSaw w t.region.start t.region.past) →

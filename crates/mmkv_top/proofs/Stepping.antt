@@ -221,6 +221,8 @@ module _ (who : ℕ) (s t : Seated) (seat : t.who ≡ who) (steady : s.region.fa
       stopped stop.SequenceEnd k h = (k.0, k.1 ∙ same)
       stopped stop.ExpiryOff k h = (k.0, k.1 ∙ same)
       stopped stop.ExpiryRange k h = (k.0, k.1 ∙ same)
+      stopped stop.AlreadyOn k h = (k.0, k.1 ∙ same)
+      stopped stop.AlreadyOff k h = (k.0, k.1 ∙ same)
 
   -- what a step comes to
   step_came : (o o' : OpenerState) (work : Work) (r : Option Running) (own : List Event) (held : ℕ) (result : Step) → o.who ≡ who → o.holds ≡ held →
@@ -358,6 +360,8 @@ module _ (who : ℕ) (s t : Seated) (one : t.who ≡ who) (o o' : OpenerState) w
       go (step.Stopped stop.SequenceEnd) keeps cause falls = over o'.work keeps.0
       go (step.Stopped stop.ExpiryOff) keeps cause falls = over o'.work keeps.0
       go (step.Stopped stop.ExpiryRange) keeps cause falls = over o'.work keeps.0
+      go (step.Stopped stop.AlreadyOn) keeps cause falls = over o'.work keeps.0
+      go (step.Stopped stop.AlreadyOff) keeps cause falls = over o'.work keeps.0
 
   -- and what it stopped for
   step_stopped : (work : Work) (result : Step) (made : List Event) (before : Option Running) → FoundIs who work t.region.start t.region.past → HasBegun work t.region.past →
@@ -569,6 +573,8 @@ module _ (who opened : ℕ) (start : Region) (past : List Event) (held : ℕ) (b
   step_full count below r (step.Stopped stop.SequenceEnd) is came = tt
   step_full count below r (step.Stopped stop.ExpiryOff) is came = tt
   step_full count below r (step.Stopped stop.ExpiryRange) is came = tt
+  step_full count below r (step.Stopped stop.AlreadyOn) is came = tt
+  step_full count below r (step.Stopped stop.AlreadyOff) is came = tt
 
   pub one_more : (result ≡ step.Going → IsUnfull o'.work) → Stepped who opened start past held before first (n + 1) result (own ++ made) o' t
   one_more unfull =
@@ -650,6 +656,8 @@ at_most who opened start past held before first n count result made o s below al
     met_by (step.Stopped stop.SequenceEnd) full = tt
     met_by (step.Stopped stop.ExpiryOff) full = tt
     met_by (step.Stopped stop.ExpiryRange) full = tt
+    met_by (step.Stopped stop.AlreadyOn) full = tt
+    met_by (step.Stopped stop.AlreadyOff) full = tt
 
     size_now : ℕ
     size_now = file_size (region_after s.region.start s.region.past)

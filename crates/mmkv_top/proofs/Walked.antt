@@ -279,6 +279,8 @@ module _ (stock left : Stock) (start : Region) (parts : List Part) (p q : PlaySt
       saw stop.SequenceEnd unsaid h = absurd unsaid
       saw stop.ExpiryOff unsaid h = absurd unsaid
       saw stop.ExpiryRange unsaid h = absurd unsaid
+      saw stop.AlreadyOn unsaid h = absurd unsaid
+      saw stop.AlreadyOff unsaid h = absurd unsaid
 
       w : SawNoImage start all
       w = saw found unsaid (subst (λ x. StoppedSaw x start all) came_is (here (StoppedSaw walks.came) st.stopped_saw))

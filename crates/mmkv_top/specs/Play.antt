@@ -4,7 +4,6 @@ use Rattle.std.specs.List.{ends_with}
 use Rattle.bstr.specs.Text.{lines_of as cut_lines}
 use Rattle.change_log.specs.History.{IsPlaced, IsMade, Legal}
 use Rattle.change_log.specs.declared.call.Answer.{Answer}
-use Rattle.opener.specs.Calls.{IsBuilt}
 use Rattle.region_words.specs.Region.{Region, IsAccepted, base, file_size}
 use Rattle.region_words.specs.Past.{region_after, changes_of}
 use Rattle.region_words.specs.Apart.{Apart}
@@ -44,10 +43,10 @@ abbrev pub AreLines : List (List ℕ) → List (Option Line) → Type 0
 AreLines [] lines = lines ≡ []
 AreLines (text ∷ texts) lines = (l : Option Line) × (rest : List (Option Line)) × (lines ≡ l ∷ rest) × IsLine text l × AreLines texts rest
 
--- so far no opener dies, and none switches the expiry
+-- so far no opener dies
 abbrev pub IsPlayable : Line → Type 0
 IsPlayable (Open strategy) = ⊤
-IsPlayable (Begin who now call) = IsBuilt call
+IsPlayable (Begin who now call) = ⊤
 IsPlayable (Step who count) = ⊤
 IsPlayable (Die who bits) = ⊥
 IsPlayable (Next who now call) = ⊥

@@ -86,12 +86,14 @@ pub record IsAnsweredBy (past : List Event) (c : Running) (who : ℕ) (a : Answe
   pub stores : a.stores ≡ counted (stores_among c.since)
   pub locks : a.locks ≡ counted (locks_among c.since)
 
--- the reasons that are printed so far: damage and the switch of the expiry aren't there yet
+-- the reasons that are printed so far: damage isn't among them
 abbrev pub IsPrinted : Reason → Type 0
 IsPrinted (reason.Full need) = ⊤
 IsPrinted reason.SequenceEnd = ⊤
 IsPrinted reason.ExpiryOff = ⊤
 IsPrinted reason.ExpiryRange = ⊤
+IsPrinted reason.AlreadyOn = ⊤
+IsPrinted reason.AlreadyOff = ⊤
 IsPrinted _ = ⊥
 
 -- the reason that is printed for a stop, if it is one of these
@@ -100,6 +102,8 @@ reason_said (stop.Full need) = Some (reason.Full need)
 reason_said stop.SequenceEnd = Some reason.SequenceEnd
 reason_said stop.ExpiryOff = Some reason.ExpiryOff
 reason_said stop.ExpiryRange = Some reason.ExpiryRange
+reason_said stop.AlreadyOn = Some reason.AlreadyOn
+reason_said stop.AlreadyOff = Some reason.AlreadyOff
 reason_said _ = None
 
 -- this opener takes no lock among these events

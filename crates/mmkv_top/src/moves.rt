@@ -1,6 +1,5 @@
 // What the lines of a script do to a world.
 ghost use Rattle.std.specs.Prelude.{◌≡◌, ◌↔◌, [], IsTrue, IfOk, IfErr, OnErr, OnOk, List, Option, Some, ℕ, length};
-ghost use Rattle.opener.specs.Calls.{IsBuilt};
 ghost use Rattle.opener.specs.Opener.{stop_found};
 ghost use Rattle.opener.specs.State.{OpenerState};
 ghost use Rattle.region_words.specs.Region.{Region};
@@ -22,7 +21,7 @@ use std::alloc::Global;
 use std::mem;
 use world::{Moved, World};
 
-/// Does what a line names. So far no opener dies, and the expiry stays as it is.
+/// Does what a line names. So far no opener dies.
 pub(crate) fn take(
     alloc: Global,
     world: &mut World,
@@ -72,10 +71,6 @@ fn begin(world: &mut World, who: u32, now: u32, call: Call) -> Result<(), Halt>
     ensures taken { (stock left : Stock) (start : Region) (parts : List Part) (text : List ℕ) → IsAt stock left start parts (play_state world.old text) →
         Takes stock left start parts (Some (Line.Begin who now call)) (play_state world.new text) result }
 {
-    if !is_built(&call) {
-        mem::drop(call);
-        return Err(Halt::Refused);
-    }
     match world.begin(who, call, now) {
         Ok(()) => Ok(()),
         Err(why) => Err(Halt::from(why)),
@@ -164,15 +159,10 @@ fn reason_of(stop: Stop) -> Result<Reason, Halt>
         Stop::SequenceEnd => Ok(Reason::SequenceEnd),
         Stop::ExpiryOff => Ok(Reason::ExpiryOff),
         Stop::ExpiryRange => Ok(Reason::ExpiryRange),
+        Stop::AlreadyOn => Ok(Reason::AlreadyOn),
+        Stop::AlreadyOff => Ok(Reason::AlreadyOff),
         Stop::Memory => Err(Halt::Memory),
         Stop::JournalFull => Err(Halt::JournalFull),
         Stop::NotWhole(_) | Stop::Version(_) | Stop::Flags(_) | Stop::Fault => Err(Halt::NotWhole),
     }
-}
-
-// Calls that switch the expiry aren't there yet.
-fn is_built(call: &Call) -> bool
-    ensures { IsTrue result ↔ IsBuilt call.now }
-{
-    !matches!(call, Call::Enable { .. } | Call::Disable)
 }

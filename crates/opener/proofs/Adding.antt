@@ -100,6 +100,8 @@ module _ (who : ℕ) (running next : Running) (mid : OpenerState) (result : Step
   stop_made why.SequenceEnd made none = none
   stop_made why.ExpiryOff made none = none
   stop_made why.ExpiryRange made none = none
+  stop_made why.AlreadyOn made none = none
+  stop_made why.AlreadyOff made none = none
 
   -- what a call has made is of the same call that goes on
   pub same_made : (made : List Change) → SameCall running next → AreOfCall who running.call running.now made → AreOfCall who next.call next.now made

@@ -14,7 +14,7 @@ use Rattle.region_words.specs.declared.event.Event.{Event}
 use Rattle.region_words.proofs.Telling.{told_and}
 use Rattle.loader.specs.declared.loaded.Image.{Image}
 use Rattle.opener.specs.State.{OpenerState}
-use Rattle.opener.specs.Calls.{IsBuilt, IsPlain, is_write}
+use Rattle.opener.specs.Calls.{IsPlain, is_write}
 use Rattle.opener.specs.Plans.{CanWrite}
 use Rattle.opener.specs.Begins.{HasBytes, IsFirst, IsFirstPlain, begun_at, call_refusal, key_refusal, pair_refusal, refusal, refusal_at}
 use Rattle.opener.specs.Ends.{Notices, Reads, ReadsBy, lock_by}
@@ -119,25 +119,25 @@ module _ (o : OpenerState) (now changes : ℕ) (next : Stage) where
           (record { at = ((λ some. refl), can, (none_held o.holds e, refl)); calm = refl; owes = λ s none. none; told = λ start past. tt })
       go false e is = may_notice asked plain (λ w. some_held o.holds e) o.image refl is
 
-  pub may_first : (asked : Call) → IsBuilt asked → HasBytes asked → call_refusal asked o.holds ≡ None → IsFirst o.image o.holds asked next → MayFirst o (begun_at asked now changes) next
-  may_first (call.Get key) built bytes none first = may_notice (call.Get key) tt (λ w. absurd cc) o.image refl first
-  may_first (call.Put key value seconds) built bytes none first =
+  pub may_first : (asked : Call) → HasBytes asked → call_refusal asked o.holds ≡ None → IsFirst o.image o.holds asked next → MayFirst o (begun_at asked now changes) next
+  may_first (call.Get key) bytes none first = may_notice (call.Get key) tt (λ w. absurd cc) o.image refl first
+  may_first (call.Put key value seconds) bytes none first =
       let good = good_pair key value bytes.0 bytes.1 none in
       may_write (call.Put key value seconds) good good refl first
-  may_first (call.Remove key) built bytes none first =
+  may_first (call.Remove key) bytes none first =
       may_write (call.Remove key) (good_key key bytes none) (good_key key bytes none) refl first
-  may_first call.Clear built bytes none first = may_write call.Clear tt tt refl first
-  may_first call.Keys built bytes none first = may_notice call.Keys tt (λ w. absurd cc) o.image refl first
-  may_first call.Count built bytes none first = may_notice call.Count tt (λ w. absurd cc) o.image refl first
-  may_first (call.Enable seconds) built bytes none first = absurd built
-  may_first call.Disable built bytes none first = absurd built
-  may_first call.Hold built bytes none first =
+  may_first call.Clear bytes none first = may_write call.Clear tt tt refl first
+  may_first call.Keys bytes none first = may_notice call.Keys tt (λ w. absurd cc) o.image refl first
+  may_first call.Count bytes none first = may_notice call.Count tt (λ w. absurd cc) o.image refl first
+  may_first (call.Enable seconds) bytes none first = may_write (call.Enable seconds) tt tt refl first
+  may_first call.Disable bytes none first = may_write call.Disable tt tt refl first
+  may_first call.Hold bytes none first =
       subst (MayFirst o (begun_at call.Hold now changes)) (sym first)
       (record { at = ((λ some. refl), refl, (not_deep o.holds none, refl)); calm = refl; owes = λ s none. none; told = λ start past. tt })
-  may_first call.Release built bytes none first =
+  may_first call.Release bytes none first =
       subst (MayFirst o (begun_at call.Release now changes)) (sym first)
       (record { at = ((λ some. refl), refl, may_release o.holds none); calm = refl; owes = λ s none. none; told = λ start past. tt })
-  may_first call.Sync built bytes none first = may_notice call.Sync tt (λ w. absurd cc) o.image refl first
+  may_first call.Sync bytes none first = may_notice call.Sync tt (λ w. absurd cc) o.image refl first
 
 -- only an idle opener begins
 pub is_idle : (o : OpenerState) (asked : Call) → refusal o asked ≡ None → (o.work ≡ Idle) × (call_refusal asked o.holds ≡ None)
@@ -148,11 +148,11 @@ is_idle o asked e = go o.work refl e
     go Ended is e = absurd cc
     go (Runs running next) is e = absurd cc
 
-pub begun_tied : (o new : OpenerState) (asked : Call) (now changes : ℕ) (s : ShareState) → Tied o s → IsBuilt asked → HasBytes asked → refusal o asked ≡ None → changes ≡ changes_told s.told →
+pub begun_tied : (o new : OpenerState) (asked : Call) (now changes : ℕ) (s : ShareState) → Tied o s → HasBytes asked → refusal o asked ≡ None → changes ≡ changes_told s.told →
     (next : Stage) → IsFirst o.image o.holds asked next → new ≡ running_as o (begun_at asked now changes) next → Tied new s
-begun_tied o new asked now changes s tied built bytes none count next first is =
+begun_tied o new asked now changes s tied bytes none count next first is =
     let idle = is_idle o asked none in
-    let may = may_first o now changes next asked built bytes idle.1 first in
+    let may = may_first o now changes next asked bytes idle.1 first in
     subst (λ (n : OpenerState). Tied n s) (sym is)
     (record {
       who = tied.who;

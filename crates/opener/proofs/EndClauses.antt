@@ -72,6 +72,8 @@ stop_call who holds running (why.Full n) new may idle keeps = (idle, keeps)
 stop_call who holds running why.SequenceEnd new may idle keeps = (idle, keeps)
 stop_call who holds running why.ExpiryOff new may idle keeps = (idle, keeps)
 stop_call who holds running why.ExpiryRange new may idle keeps = (idle, keeps)
+stop_call who holds running why.AlreadyOn new may idle keeps = (idle, keeps)
+stop_call who holds running why.AlreadyOff new may idle keeps = (idle, keeps)
 
 -- a call that ends so is the call that ran
 pub finishes_call : (who holds : ℕ) (running next : Running) (how : End) (ended : ℕ) (mid : OpenerState) (result : Step) (new : OpenerState) → SameCall running next → IsPlain running.call →

@@ -87,10 +87,11 @@ grown_first r who size false rest e s =
     let more : size ≤ file_size r = grind (arith, nat_tests) in
     omega (arith, more, all_grows r who rest s)
 
--- after the version 3 is stored there is a version
-pub versioned_first : (r : Region) (who : ℕ) (front rest : List What) → AreStorable r who (front ++ store_meta 1 3 ∷ rest) → (record_of (after_all r (front ++ store_meta 1 3 ∷ rest))).version ≢ 0
-versioned_first r who [] rest s e =
-    let before = all_firm (region_step r (store_meta 1 3)) who rest s.2 e in
-    let now : word_at (with_word r.meta_bytes 1 3) 1 ≡ 3 = same_word r.meta_bytes 1 3 s.0.0 (omega arith) in
-    absurd (omega (arith, before, now))
-versioned_first r who (what ∷ front) rest s e = versioned_first (region_step r what) who front rest s.2 e
+-- after a version is stored there is one
+pub versioned_first : (r : Region) (who version : ℕ) (front rest : List What) → 0 < version → AreStorable r who (front ++ store_meta 1 version ∷ rest) →
+    (record_of (after_all r (front ++ store_meta 1 version ∷ rest))).version ≢ 0
+versioned_first r who version [] rest some s e =
+    let before = all_firm (region_step r (store_meta 1 version)) who rest s.2 e in
+    let now : word_at (with_word r.meta_bytes 1 version) 1 ≡ version = same_word r.meta_bytes 1 version s.0.0 s.0.1 in
+    absurd (omega (arith, before, now, some))
+versioned_first r who version (what ∷ front) rest some s e = versioned_first (region_step r what) who version front rest some s.2 e

@@ -21,6 +21,8 @@ pub mod Noticed
 pub mod PlanEvents
 pub mod Planned
 pub mod Planning
+pub mod RowEvents
+pub mod Turns
 pub mod QuickReads
 pub mod Quiet
 pub mod Ready

@@ -10,7 +10,7 @@ use Rattle.kv_pairs.specs.Mapped.{packed}
 use Rattle.change_log.specs.declared.call.Call.{Call}
 use Rattle.change_log.specs.declared.change.Act.TheVariants as act
 use Rattle.change_log.specs.declared.change.Change.{Change}
-use Rattle.region_words.specs.Rows.{item_of, stores_from, store_data, store_meta, payload_stores, confirmed_by_checksum}
+use Rattle.region_words.specs.Rows.{item_of, stores_from, store_data, store_meta, close_sizes, payload_stores, confirmed_by_checksum, confirmed_by_header}
 use Rattle.region_words.specs.Standings.{tail_bytes}
 use Rattle.region_words.specs.declared.standing.Standing.{Standing}
 use Rattle.region_words.specs.declared.event.Mark.TheVariants.{Commit}
@@ -21,12 +21,16 @@ use Rattle.region_words.proofs.RowParts.{length-words}
 use Rattle.loader.specs.declared.loaded.Image.{Image}
 use Rattle.appender.specs.Appends.{appending}
 use Rattle.write_back.specs.Rewrites.{file_for, rewriting}
+use Rattle.region_words.specs.Making.{size_by}
+use Rattle.change_log.specs.Acts.{applied}
+use Rattle.expiry_switch.specs.Switches.{flags_of, switching}
 use Rattle.opener.specs.Bound.{grown_by, next_growth, size_left, size_planned, stores_left}
 use Rattle.loader.specs.PartialLoads.{IsSoundImage}
 use Rattle.opener.specs.Plans.{CanWrite, IsItemPlan, IsPlanOf, events_in, packing}
 use Rattle.opener.specs.declared.plan.Plan.{Plan}
 use Rattle.opener.proofs.Planned.{IsEither, either_plan}
 use Rattle.opener.proofs.Planning.{room_after}
+use Rattle.opener.proofs.Turns.{switch_few, switched_room}
 
 -- an append has few events beside the words of its item
 append_few : (s : Standing) (change : Change) → 4 * length (appending s change).events ≤ length (item_of s.flag change.act) + 18
@@ -56,6 +60,19 @@ rewrite_grows s m change need = go (nat_lt s.file_size wanted)
     go true = refl
     go false = refl
 
+switch_grows : (s : Standing) (to : Bool) (m : Map) (change : Change) →
+    grown_by (switching s to m change).events ≡ cond (nat_lt s.file_size (unwrap_or (size_by s to m 0) 0)) (unwrap_or (size_by s to m 0) 0) 0
+switch_grows s to m change = go (nat_lt s.file_size wanted)
+  where
+    wanted : ℕ
+    wanted = unwrap_or (size_by s to m 0) 0
+
+    go : (b : Bool) →
+        grown_by (cond b (Grow wanted ∷ []) [] ++ store_meta 2 (s.sequence + 1) ∷ store_meta 1 4 ∷ close_sizes ++ payload_stores (packed to m) ++ store_meta 26 (flags_of to) ∷ confirmed_by_header (packed to m) (Commit change))
+        ≡ cond b wanted 0
+    go true = refl
+    go false = refl
+
 -- a plan leaves the file as it was found, or grows it first to the size that it leaves
 abbrev GrowsFirst : ℕ → Plan → Type 0
 GrowsFirst file plan = ((next_growth plan ≡ 0) × (size_left plan ≡ file)) ⊎ (next_growth plan ≡ size_left plan)
@@ -69,7 +86,7 @@ grows_first growth left file wanted growth_is left_is = go (nat_lt file wanted) 
 
 -- what is known of a plan's events
 record FewEvents (file : ℕ) (plan : Plan) : Type 0 where
-  pub few : 4 * events_in plan ≤ size_left plan + 49
+  pub few : 4 * events_in plan ≤ size_left plan + 51
   pub grows : GrowsFirst file plan
 
 module _ (who : ℕ) (asked : Call) (now : ℕ) (i : Image) (plan : Plan) (can : CanWrite asked) (sound : IsSoundImage i) (is_plan : IsPlanOf who asked now i plan) where
@@ -108,7 +125,16 @@ module _ (who : ℕ) (asked : Call) (now : ℕ) (i : Image) (plan : Plan) (can :
 
       go : IsEither who asked now i plan → FewEvents s.file_size plan
       go (inl p) = by p.change p.is
-      go (inr (_, p)) =
+      go (inr (inr p)) =
+          let left = applied i.map p.deed in
+          let change : Change = record { maker = who; act = p.deed } in
+          let after = switched_room s p.to left change sound.standing.file p.can in
+          subst (FewEvents s.file_size) (sym p.is)
+          (record {
+            few = omega (arith, switch_few s p.to left change, after.room);
+            grows = grows_first _ _ s.file_size (unwrap_or (size_by s p.to left 0) 0) (switch_grows s p.to left change) refl;
+          })
+      go (inr (inl (_, p))) =
           let after = room_after s fin.empty clear 0 sound.standing.file p.begun in
           subst (FewEvents s.file_size) (sym p.is)
           (record {

@@ -1,6 +1,6 @@
 -- What is true of a plan for a sound image.
 use Rattle.std.proofs.Common.{◌≡◌, ◌≢◌, ◌⊎◌, ℕ, ◌+◌, ◌/◌, ◌%◌, ◌≤◌, Bool, true, false, cond, List, [], ◌∷◌, ◌++◌, length, refl, sym, ap, ◌∙◌, inl, inr, arith, subst, length-append, length-take}
-use Rattle.std.specs.Prelude.{Some, None, IsTrue, unwrap_or, nat_lt, ◌==◌}
+use Rattle.std.specs.Prelude.{Some, None, IsTrue, unwrap_or, not, nat_lt, ◌==◌}
 use Rattle.std.specs.Int.{to_le_bytes, w32}
 use Rattle.std.specs.FinMap as fin
 use Rattle.expiring_map.specs.Map.{Map}
@@ -17,7 +17,8 @@ use Rattle.change_log.specs.declared.change.Act.TheVariants as act
 use Rattle.change_log.specs.declared.change.Change.{Change}
 use Rattle.change_log.specs.declared.call.Call.{Call}
 use Rattle.change_log.specs.declared.call.Call.TheVariants as call
-use Rattle.region_words.specs.Rows.{item_of, IsAppendable, stores_from, store_data, store_meta, payload_stores, confirmed_by_checksum}
+use Rattle.region_words.specs.Rows as rows
+use Rattle.region_words.specs.Rows.{Row, item_of, IsAppendable, stores_from, store_data, store_meta, payload_stores, confirmed_by_checksum}
 use Rattle.region_words.specs.Standings.{words_of, tail_bytes}
 use Rattle.region_words.specs.Owing.{AreWithin}
 use Rattle.region_words.specs.declared.standing.Standing.{Standing}
@@ -31,6 +32,7 @@ use Rattle.region_words.proofs.RowParts.{length-words}
 use Rattle.loader.specs.declared.loaded.Image.{Image}
 use Rattle.appender.specs.Appends.{CanAppend, appending}
 use Rattle.write_back.specs.Rewrites.{CanBegin, file_for, version_after, rewriting}
+use Rattle.expiry_switch.specs.Switches.{switching_by}
 use Rattle.loader.specs.PartialLoads.{IsSoundStanding, IsSoundImage}
 use Rattle.opener.specs.Plans.{CanWrite, IsItemPlan, IsClearPlan, IsPlanOf, packing}
 use Rattle.opener.specs.Writes.{commits_of, commits_in, image_after, CanReserve, IsOwn, IsSoundPlan}
@@ -38,6 +40,8 @@ use Rattle.opener.specs.declared.plan.Plan.{Plan}
 use Rattle.opener.specs.declared.plan.Plan.TheVariants.{Append, Rewrite}
 use Rattle.opener.specs.declared.work.Running.{Running}
 use Rattle.opener.proofs.Planning.{room_after}
+use Rattle.opener.proofs.RowEvents.{not_nil, within_words, words_commit}
+use Rattle.opener.proofs.Turns.{CanPack, IsTurn, turn_on, turn_off, may_enable, may_disable, switch_some, switch_commits, switch_few, switching_within, switched_room, switched_sound}
 
 -- a plan appends the item of the call's change, at once or behind a rewrite, or it writes an empty map for a clear
 pub record IsItemsPlan (who : ℕ) (asked : Call) (now : ℕ) (i : Image) (plan : Plan) : Type 0 where
@@ -46,25 +50,46 @@ pub record IsItemsPlan (who : ℕ) (asked : Call) (now : ℕ) (i : Image) (plan 
   pub maker : change.maker ≡ who
   pub is : IsItemPlan change now i plan
 
+-- or it switches the expiry
+pub record IsTurnPlan (who : ℕ) (asked : Call) (now : ℕ) (i : Image) (plan : Plan) : Type 0 where
+  pub row : Row
+  pub to : Bool
+  pub deed : Act
+  pub turn : IsTurn row to deed
+  pub act : act_of asked now ≡ Some deed
+  pub turns : i.standing.flag ≡ not to
+  pub can : CanPack i.standing to (applied i.map deed)
+  pub is : plan ≡ Rewrite (switching_by i.standing to i.map who deed) None (applied i.map deed)
+
 abbrev pub IsEither : ℕ → Call → ℕ → Image → Plan → Type 0
-IsEither who asked now i plan = IsItemsPlan who asked now i plan ⊎ ((asked ≡ call.Clear) × IsClearPlan who i.standing plan)
+IsEither who asked now i plan =
+    IsItemsPlan who asked now i plan ⊎ (((asked ≡ call.Clear) × IsClearPlan who i.standing plan) ⊎ IsTurnPlan who asked now i plan)
 
 pub either_plan : (who : ℕ) (asked : Call) (now : ℕ) (i : Image) (plan : Plan) → CanWrite asked → IsPlanOf who asked now i plan → IsEither who asked now i plan
 either_plan who (call.Put key value seconds) now i plan can (change, act, maker, is) = inl (record { change = change; act = act; maker = maker; is = is })
 either_plan who (call.Remove key) now i plan can (change, act, maker, is) = inl (record { change = change; act = act; maker = maker; is = is })
-either_plan who call.Clear now i plan can is = inr (refl, is)
+either_plan who call.Clear now i plan can is = inr (inl (refl, is))
 either_plan who (call.Get key) now i plan can is = absurd can
 either_plan who call.Keys now i plan can is = absurd can
 either_plan who call.Count now i plan can is = absurd can
-either_plan who (call.Enable seconds) now i plan can is = absurd can
-either_plan who call.Disable now i plan can is = absurd can
+either_plan who (call.Enable seconds) now i plan can is =
+    let may = may_enable i.standing i.map now seconds is.begun in
+    inr (inr (record {
+      row = rows.Enable now seconds;
+      to = true;
+      deed = act.Enable now seconds;
+      turn = turn_on now seconds may.1;
+      act = refl;
+      turns = may.0;
+      can = may.2;
+      is = is.is;
+    }))
+either_plan who call.Disable now i plan can is =
+    let may = may_disable i.standing i.map now is.begun in
+    inr (inr (record { row = rows.Disable now; to = false; deed = act.Disable now; turn = turn_off now; act = refl; turns = may.0; can = may.1; is = is.is }))
 either_plan who call.Hold now i plan can is = absurd can
 either_plan who call.Release now i plan can is = absurd can
 either_plan who call.Sync now i plan can is = absurd can
-
-not_nil : (xs : List What) (y : What) (ys : List What) → xs ++ y ∷ ys ≡ [] → ⊥
-not_nil [] y ys e = absurd cc
-not_nil (x ∷ xs) y ys e = absurd cc
 
 -- an append and a rewrite have events
 pub append_some : (s : Standing) (change : Change) → (appending s change).events ≢ []
@@ -104,15 +129,6 @@ rewritten_fits s m change need room f = record { pairs = f.pairs; size = omega a
 
 live_fits : (i : Image) (now : ℕ) → IsSoundImage i → FitsIn i.standing.flag (live_part i.map now) (i.standing.size + 4)
 live_fits i now sound = packed_fits i.standing.flag i.map now (i.standing.size + 4) sound.map
-
--- words grow no file and commit nothing
-within_words : (room place : ℕ) (words : List ℕ) (rest : List What) → AreWithin room rest → AreWithin room (stores_from place words ++ rest)
-within_words room place [] rest h = h
-within_words room place (word ∷ words) rest h = (tt, within_words room (place + 1) words rest h)
-
-words_commit : (place : ℕ) (words : List ℕ) (rest : List What) → commits_of (stores_from place words ++ rest) ≡ commits_of rest
-words_commit place [] rest = refl
-words_commit place (word ∷ words) rest = words_commit (place + 1) words rest
 
 -- an append commits its change alone
 pub append_commits : (s : Standing) (change : Change) → commits_of (appending s change).events ≡ change ∷ []
@@ -185,7 +201,7 @@ appends flag (act.Recovered pairs) h = absurd h
 -- what a plan leaves of the image's map, change by change
 abbrev pub LeavesMap : ℕ → Image → Plan → Type 0
 LeavesMap now i (Append a map) = replay i.map (commits_of a.events) ≡ map
-LeavesMap now i (Rewrite r None map) = (replay i.map (commits_of r.events) ≡ map) × (map ≡ fin.empty)
+LeavesMap now i (Rewrite r None map) = replay i.map (commits_of r.events) ≡ map
 LeavesMap now i (Rewrite r (Some a) map) =
     (replay i.map (commits_of r.events) ≡ live_part i.map now) × (replay (live_part i.map now) (commits_of a.events) ≡ map)
 
@@ -205,6 +221,9 @@ module _ (who : ℕ) (asked : Call) (now : ℕ) (i : Image) (plan : Plan) (can :
 
   abbrev clear : Change
   clear = record { maker = who; act = act.Clear }
+
+  abbrev by_deed : Act → Change
+  by_deed deed = record { maker = who; act = deed }
 
   abbrev live : Map
   live = live_part i.map now
@@ -233,7 +252,12 @@ module _ (who : ℕ) (asked : Call) (now : ℕ) (i : Image) (plan : Plan) (can :
 
       go : IsEither who asked now i plan → IsSoundPlan who running plan
       go (inl p) = by p p.is
-      go (inr (_, p)) =
+      go (inr (inr p)) =
+          subst (IsSoundPlan who running) (sym p.is) (
+            switch_some i.standing p.to (applied i.map p.deed) (by_deed p.deed),
+            switched_sound i.standing p.to (applied i.map p.deed) (by_deed p.deed) sound.standing.file p.can (p.turn.packs i.standing.flag i.map sound.map.pairs),
+          )
+      go (inr (inl (_, p))) =
           subst (IsSoundPlan who running) (sym p.is) (
             rewrite_some i.standing fin.empty clear 0,
             record {
@@ -262,7 +286,15 @@ module _ (who : ℕ) (asked : Call) (now : ℕ) (i : Image) (plan : Plan) (can :
 
       go : IsEither who asked now i plan → CanReserve plan
       go (inl p) = by p.change p.is
-      go (inr (_, p)) =
+      go (inr (inr p)) =
+          let left = applied i.map p.deed in
+          let after = switched_room i.standing p.to left (by_deed p.deed) sound.standing.file p.can in
+          subst CanReserve (sym p.is)
+          (record {
+            few = omega (arith, switch_few i.standing p.to left (by_deed p.deed), after.room, after.file.most);
+            within = switching_within i.standing p.to left (by_deed p.deed);
+          })
+      go (inr (inl (_, p))) =
           subst CanReserve (sym p.is)
           (record {
             few = omega (arith, few_rewritten i.standing fin.empty clear 0 sound.standing p.begun);
@@ -288,7 +320,9 @@ module _ (who : ℕ) (asked : Call) (now : ℕ) (i : Image) (plan : Plan) (can :
 
       go : IsEither who asked now i plan → AreOfCall who asked now (commits_in plan)
       go (inl p) = by p p.is
-      go (inr (e, p)) =
+      go (inr (inr p)) =
+          of_act who now asked (by_deed p.deed) (commits_in plan) p.act (inl (ap commits_in p.is ∙ switch_commits i.standing p.to (applied i.map p.deed) (by_deed p.deed)))
+      go (inr (inl (e, p))) =
           of_act who now asked clear (commits_in plan) (ap (λ c. act_of c now) e) (inl (ap commits_in p.is ∙ rewrite_commits i.standing fin.empty clear 0))
 
   -- and these lead from the image's map to the plan's
@@ -305,4 +339,5 @@ module _ (who : ℕ) (asked : Call) (now : ℕ) (i : Image) (plan : Plan) (can :
 
       go : IsEither who asked now i plan → LeavesMap now i plan
       go (inl p) = by p.change p.is
-      go (inr (_, p)) = subst (LeavesMap now i) (sym p.is) (ap (replay i.map) (rewrite_commits i.standing fin.empty clear 0), refl)
+      go (inr (inr p)) = subst (LeavesMap now i) (sym p.is) (ap (replay i.map) (switch_commits i.standing p.to (applied i.map p.deed) (by_deed p.deed)))
+      go (inr (inl (_, p))) = subst (LeavesMap now i) (sym p.is) (ap (replay i.map) (rewrite_commits i.standing fin.empty clear 0))

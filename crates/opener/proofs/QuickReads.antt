@@ -64,7 +64,7 @@ module _ (o : OpenerState) (i : Image) (s m : ShareState) (peek : Peek) (tied : 
     (first : Goes (loaded s) s m) (checksum : OnTold m.told (λ h. peek.checksum ≡ checksum_at h.start h.past)) (changes : peek.changes ≡ changes_told m.told) where
   began : Tied (running_as o (looking s) PeekChecksum) s
   began =
-      begun_tied o (running_as o (looking s) PeekChecksum) call.Sync 0 (changes_told s.told) s tied tt tt (ap (λ w. refusal_at w call.Sync o.holds) idle) refl
+      begun_tied o (running_as o (looking s) PeekChecksum) call.Sync 0 (changes_told s.told) s tied tt (ap (λ w. refusal_at w call.Sync o.holds) idle) refl
       PeekChecksum (subst (λ z. IsFirst z o.holds call.Sync PeekChecksum) (sym kept) refl) refl
 
   peeked : Tied (running_as o (looking s) (PeekSequence peek)) m

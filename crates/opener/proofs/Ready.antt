@@ -47,8 +47,8 @@ can_write (call.Get key) plain write = absurd cc
 can_write call.Keys plain write = absurd cc
 can_write call.Count plain write = absurd cc
 can_write call.Sync plain write = absurd cc
-can_write (call.Enable seconds) plain write = absurd plain
-can_write call.Disable plain write = absurd plain
+can_write (call.Enable seconds) plain write = plain
+can_write call.Disable plain write = plain
 can_write call.Hold plain write = absurd plain
 can_write call.Release plain write = absurd plain
 
@@ -60,8 +60,8 @@ no_act (call.Get key) now plain read = refl
 no_act call.Keys now plain read = refl
 no_act call.Count now plain read = refl
 no_act call.Sync now plain read = refl
-no_act (call.Enable seconds) now plain read = absurd plain
-no_act call.Disable now plain read = absurd plain
+no_act (call.Enable seconds) now plain read = absurd cc
+no_act call.Disable now plain read = absurd cc
 no_act call.Hold now plain read = absurd plain
 no_act call.Release now plain read = absurd plain
 

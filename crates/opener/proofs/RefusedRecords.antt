@@ -65,6 +65,8 @@ named running loading (why.Full need) s t is = absurd is.0
 named running loading why.SequenceEnd s t is = absurd is.0
 named running loading why.ExpiryOff s t is = absurd is.0
 named running loading why.ExpiryRange s t is = absurd is.0
+named running loading why.AlreadyOn s t is = absurd is.0
+named running loading why.AlreadyOff s t is = absurd is.0
 
 -- a load that goes on
 going : (running : Running) (loading : Loading) (found : Option Stop) (s t : ShareState) → loads_of loading ≡ 9 → IfSome found (λ stop. HasReason (Runs running (Load loading)) stop s t) →

@@ -47,7 +47,7 @@ within_more room more (what ∷ rest) le are = (is_within_more room more what le
 -- a plan has a row
 any_row : (who : ℕ) (running : Running) (plan : Plan) → IsSoundPlan who running plan → (row : Row) × IsRowOf who running row plan
 any_row who running (Append a map) sound = (rows.Append act.Clear, (act.Clear, refl))
-any_row who running (Rewrite r None map) sound = (rows.Clear, refl)
+any_row who running (Rewrite r None map) sound = (rows.Clear, tt)
 any_row who running (Rewrite r (Some a) map) (some, standing, sum, (change, follows), left) =
     let need = length (item_of r.standing.flag change.act) in
     (rows.Pack 0 need, (0, need, refl, (change, follows, refl)))
@@ -147,8 +147,8 @@ write_plain call.Clear can = can
 write_plain (call.Get key) can = absurd can
 write_plain call.Keys can = absurd can
 write_plain call.Count can = absurd can
-write_plain (call.Enable seconds) can = absurd can
-write_plain call.Disable can = absurd can
+write_plain (call.Enable seconds) can = can
+write_plain call.Disable can = can
 write_plain call.Hold can = absurd can
 write_plain call.Release can = absurd can
 write_plain call.Sync can = absurd can
@@ -160,8 +160,8 @@ is_written call.Clear can = refl
 is_written (call.Get key) can = absurd can
 is_written call.Keys can = absurd can
 is_written call.Count can = absurd can
-is_written (call.Enable seconds) can = absurd can
-is_written call.Disable can = absurd can
+is_written (call.Enable seconds) can = refl
+is_written call.Disable can = refl
 is_written call.Hold can = absurd can
 is_written call.Release can = absurd can
 is_written call.Sync can = absurd can

@@ -285,6 +285,8 @@ module _ (who : ℕ) (running : Running) (at : Stage) (start : Region) (past now
   came holds (step.Stopped why.SequenceEnd) new keeps is ok apart are = has_stopped new.work keeps.0 are
   came holds (step.Stopped why.ExpiryOff) new keeps is ok apart are = has_stopped new.work keeps.0 are
   came holds (step.Stopped why.ExpiryRange) new keeps is ok apart are = has_stopped new.work keeps.0 are
+  came holds (step.Stopped why.AlreadyOn) new keeps is ok apart are = has_stopped new.work keeps.0 are
+  came holds (step.Stopped why.AlreadyOff) new keeps is ok apart are = has_stopped new.work keeps.0 are
 
 -- What a step made is told apart from what others did.
 abbrev first_maker : List Event → ℕ

@@ -64,8 +64,8 @@ can_plain call.Clear can = tt
 can_plain (call.Get key) can = absurd can
 can_plain call.Keys can = absurd can
 can_plain call.Count can = absurd can
-can_plain (call.Enable seconds) can = absurd can
-can_plain call.Disable can = absurd can
+can_plain (call.Enable seconds) can = tt
+can_plain call.Disable can = tt
 can_plain call.Hold can = absurd can
 can_plain call.Release can = absurd can
 can_plain call.Sync can = absurd can
@@ -81,6 +81,8 @@ is_seen (why.Full need) is = tt
 is_seen why.SequenceEnd is = tt
 is_seen why.ExpiryOff is = tt
 is_seen why.ExpiryRange is = tt
+is_seen why.AlreadyOn is = tt
+is_seen why.AlreadyOff is = tt
 
 -- this is the reason for which the region's image is refused
 abbrev pub IsReason : Running → Stop → History → Type 0
@@ -102,6 +104,7 @@ beside_of o running i size start past kept region lawful lock facts sound sum is
       sum = sum;
       file = file;
       firm = image.firm;
+      accepted = λ ok. lawful_accepted start past ok lawful;
       calm = λ apart. (facts.rests lock refl apart, lawful_accepted start past (image.accepted apart) lawful);
       now = λ apart.
           let s = shows (image.accepted apart) apart in
@@ -237,3 +240,5 @@ module _ (o : OpenerState) (running next : Running) (size : ℕ) (s t : ShareSta
         by why.SequenceEnd is told = (tt, held, other why.SequenceEnd (λ e. absurd cc) told)
         by why.ExpiryOff is told = (tt, held, other why.ExpiryOff (λ e. absurd cc) told)
         by why.ExpiryRange is told = (tt, held, other why.ExpiryRange (λ e. absurd cc) told)
+        by why.AlreadyOn is told = (tt, held, other why.AlreadyOn (λ e. absurd cc) told)
+        by why.AlreadyOff is told = (tt, held, other why.AlreadyOff (λ e. absurd cc) told)

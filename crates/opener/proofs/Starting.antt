@@ -1,6 +1,6 @@
 -- A plan that is made for the image that a region shows: its first row may start there, and where its events lead.
 use Rattle.std.proofs.Common.{◌≡◌, ◌≢◌, ℕ, ◌+◌, ◌^◌, ◌<◌, ◌≤◌, Bool, true, false, cond, List, [], ◌∷◌, ◌++◌, length, refl, sym, ◌∙◌, arith, subst, ap, inl, inr}
-use Rattle.std.specs.Prelude.{None, max, unwrap_or, nat_lt, nat_le, ◌==◌, ◌&&◌}
+use Rattle.std.specs.Prelude.{None, max, unwrap_or, not, nat_lt, nat_le, ◌==◌, ◌&&◌}
 use Rattle.std.specs.FinMap as fin
 use Rattle.std.proofs.lemmas.Bool.Decides.{nat_tests}
 use Rattle.expiring_map.specs.Map.{Map}
@@ -17,9 +17,10 @@ use Rattle.region_words.specs.Region.{Region, IsRegion, IsAccepted, record_of, b
 use Rattle.region_words.specs.Past.{region_after, after_all, changes_of}
 use Rattle.region_words.specs.Apart.{Apart}
 use Rattle.region_words.specs.Lawful.{Between, map_after}
-use Rattle.region_words.specs.Rows.{Row, MayBegin, HasRoom, IsAppendable, events_of, item_of, standing, store_meta, append_stores, payload_stores, confirmed_by_checksum}
+use Rattle.region_words.specs.Rows.{Row, MayBegin, HasRoom, IsAppendable, events_of, item_of, standing, store_meta, append_stores, payload_stores, close_sizes, confirmed_by_checksum, confirmed_by_header}
 use Rattle.region_words.specs.Rows as rows
 use Rattle.region_words.specs.Standings.{standing_of}
+use Rattle.region_words.specs.Making.{size_by}
 use Rattle.region_words.specs.Owing.{AreStorable, Comes}
 use Rattle.region_words.specs.declared.standing.Standing.{Standing}
 use Rattle.region_words.specs.declared.event.Mark.TheVariants.{Commit}
@@ -34,10 +35,11 @@ use Rattle.region_words.proofs.PackedBytes.{packed_bytes}
 use Rattle.region_words.proofs.Regions.{All-from_Small}
 use Rattle.region_words.proofs.Rewritten.{write_back_leaves}
 use Rattle.region_words.proofs.RowsStand.{item_bytes}
-use Rattle.region_words.proofs.StorableRows.{append_storable, write_back_storable}
+use Rattle.region_words.proofs.StorableRows.{append_storable, write_back_storable, switch_storable}
 use Rattle.loader.specs.declared.loaded.Image.{Image}
 use Rattle.appender.specs.Appends.{CanAppend, appending}
 use Rattle.write_back.specs.Rewrites.{CanBegin, file_for, rewriting}
+use Rattle.expiry_switch.specs.Switches.{flags_of, switching_by}
 use Rattle.opener.specs.Opener.{IsCalm, image_at}
 use Rattle.loader.specs.PartialLoads.{IsSoundImage}
 use Rattle.opener.specs.Plans.{CanWrite, IsItemPlan, IsPlanOf, fits_behind}
@@ -45,6 +47,7 @@ use Rattle.opener.specs.Writes.{IsOwn, MayStart, HasStanding, Leads, PlanLeads, 
 use Rattle.opener.specs.declared.plan.Plan.{Plan}
 use Rattle.opener.specs.declared.work.Running.{Running}
 use Rattle.opener.proofs.Leading.{continued_below, all_firm, all_grows, grown_first, versioned_first}
+use Rattle.opener.proofs.Turns.{CanPack, IsTurn, switch_some}
 use Rattle.opener.proofs.Planned.{IsEither, IsItemsPlan, LeavesMap, either_plan, planned_map, append_some, rewrite_some}
 
 pub record IsNow (j : Image) (start : Region) (past : List Event) : Type 0 where
@@ -65,6 +68,7 @@ pub record IsBeside (j : Image) (start : Region) (past : List Event) : Type 0 wh
   pub firm : (record_of (region_after start past)).version ≡ 0 → j.standing.version ≡ 0
   pub calm : Apart start past → IsOpen start past
   pub now : Apart start past → IsNow j start past
+  pub accepted : IsAccepted start → IsAccepted (region_after start past)
 
 -- changes after changes
 replay_on : (m : Map) (xs ys : List Change) → replay m (xs ++ ys) ≡ replay (replay m xs) ys
@@ -210,8 +214,8 @@ module _ (who : ℕ) (start : Region) (past : List Event) where
 
     versioned : (grows fresh : Bool) (x wanted : ℕ) (payload rest : List What) → AreStorable r who (cond grows (Grow wanted ∷ []) [] ++ store_meta 2 x ∷ cond fresh (store_meta 1 3 ∷ []) [] ++ payload ++ rest) →
         (record_of (after_all r (cond grows (Grow wanted ∷ []) [] ++ store_meta 2 x ∷ cond fresh (store_meta 1 3 ∷ []) [] ++ payload ++ rest))).version ≡ 0 → cond fresh 3 s.version ≡ 0
-    versioned true true x wanted payload rest stored none = absurd (versioned_first r who (Grow wanted ∷ store_meta 2 x ∷ []) (payload ++ rest) stored none)
-    versioned false true x wanted payload rest stored none = absurd (versioned_first r who (store_meta 2 x ∷ []) (payload ++ rest) stored none)
+    versioned true true x wanted payload rest stored none = absurd (versioned_first r who 3 (Grow wanted ∷ store_meta 2 x ∷ []) (payload ++ rest) (omega arith) stored none)
+    versioned false true x wanted payload rest stored none = absurd (versioned_first r who 3 (store_meta 2 x ∷ []) (payload ++ rest) (omega arith) stored none)
     versioned true false x wanted payload rest stored none = beside.firm (all_firm r who (Grow wanted ∷ store_meta 2 x ∷ payload ++ rest) stored none)
     versioned false false x wanted payload rest stored none = beside.firm (all_firm r who (store_meta 2 x ∷ payload ++ rest) stored none)
 
@@ -288,6 +292,93 @@ module _ (who : ℕ) (start : Region) (past : List Event) where
               n.whole begun;
         }
 
+    -- a switch may be stored, and may start
+    turn_stored : (row : Row) (to : Bool) (deed : Act) → IsTurn row to deed → CanPack s to (applied j.map deed) → AreStorable r who (switching_by s to j.map who deed).events
+    turn_stored row to deed turn can =
+        let left = applied j.map deed in
+        let new = packed to left in
+        let found = grown_roomy (length new) 0 (fin.len left) s.file_size beside.sound.standing.file.most beside.sound.standing.file.pages can.0 in
+        let enough : IsFound (4 + length new) (size_by s to left 0) =
+        record { wanted = found.wanted; is = found.is; roomy = record { room = omega (arith, found.roomy.room); most = found.roomy.most; pages = found.roomy.pages } } in
+        switch_storable r s (size_by s to left 0) (flags_of to) new (Commit (record { maker = who; act = deed })) who beside.region beside.file enough can.1 turn.bit
+        (packed_bytes to left (turn.packs s.flag j.map beside.sound.map.pairs)) refl
+
+    turn_starts : (row : Row) (to : Bool) (deed : Act) → IsTurn row to deed → s.flag ≡ not to → CanPack s to (applied j.map deed) → MayStart row (switching_by s to j.map who deed).events who start past
+    turn_starts row to deed turn turns can =
+        record {
+          storable = turn_stored row to deed turn can;
+          coming = λ apart.
+              let n = beside.now apart in
+              subst (λ (i : Image). shown r ≡ Whole i.standing.size → i.standing.flag ≡ not to → CanPack i.standing to (applied i.map deed) → Comes start past who row (switching_by i.standing to i.map who deed).events) n.is
+              (λ whole turns can.
+              comes row (switching_by (standing r) to m who deed).events (switch_some (standing r) to (applied m deed) (record { maker = who; act = deed })) (beside.calm apart)
+              (turn.may r m whole turns can) (turn.are r m who)) n.whole turns can;
+        }
+
+    -- and this is where it leads
+    turn_stands : (row : Row) (to : Bool) (deed : Act) → IsTurn row to deed → s.flag ≡ not to → CanPack s to (applied j.map deed) → IsAccepted start → Apart start past →
+        HasStanding (after_all r (switching_by s to j.map who deed).events) (switching_by s to j.map who deed).standing
+    turn_stands row to deed turn turns can ok apart =
+        let n = beside.now apart in
+        subst (λ (i : Image). shown r ≡ Whole i.standing.size → i.standing.flag ≡ not to → CanPack i.standing to (applied i.map deed) → IsPackable to (applied i.map deed) →
+        HasStanding (after_all r (switching_by i.standing to i.map who deed).events) (switching_by i.standing to i.map who deed).standing) n.is
+        (λ whole turns can packs. turn.left r m who beside.region (beside.accepted ok) (turn.may r m whole turns can) (packed_bytes to (applied m deed) packs))
+        n.whole turns can (turn.packs s.flag j.map beside.sound.map.pairs)
+
+    turn_file : (to : Bool) (deed : Act) → AreStorable r who (switching_by s to j.map who deed).events →
+        (switching_by s to j.map who deed).standing.file_size ≤ file_size (after_all r (switching_by s to j.map who deed).events)
+    turn_file to deed stored = go (nat_lt s.file_size wanted) (ap (λ n. nat_lt n wanted) (sym beside.file)) stored
+      where
+        wanted : ℕ
+        wanted = unwrap_or (size_by s to (applied j.map deed) 0) 0
+
+        new : List ℕ
+        new = packed to (applied j.map deed)
+
+        change : Change
+        change = record { maker = who; act = deed }
+
+        rest : List What
+        rest = store_meta 2 (s.sequence + 1) ∷ store_meta 1 4 ∷ close_sizes ++ payload_stores new ++ store_meta 26 (flags_of to) ∷ confirmed_by_header new (Commit change)
+
+        go : (b : Bool) → nat_lt (file_size r) wanted ≡ b → AreStorable r who (cond b (Grow wanted ∷ []) [] ++ store_meta 2 (s.sequence + 1) ∷ store_meta 1 4 ∷ close_sizes ++ payload_stores new ++ store_meta 26 (flags_of to) ∷ confirmed_by_header new (Commit change)) →
+            max s.file_size wanted ≤ file_size (after_all r (cond b (Grow wanted ∷ []) [] ++ store_meta 2 (s.sequence + 1) ∷ store_meta 1 4 ∷ close_sizes ++ payload_stores new ++ store_meta 26 (flags_of to) ∷ confirmed_by_header new (Commit change)))
+        go true e stored = omega (arith, beside.file, grown_first r who wanted true rest e stored)
+        go false e stored = omega (arith, beside.file, grown_first r who wanted false rest e stored)
+
+    turn_firm : (to : Bool) (deed : Act) → AreStorable r who (switching_by s to j.map who deed).events → (record_of (after_all r (switching_by s to j.map who deed).events)).version ≢ 0
+    turn_firm to deed stored = go (nat_lt s.file_size wanted) stored
+      where
+        wanted : ℕ
+        wanted = unwrap_or (size_by s to (applied j.map deed) 0) 0
+
+        new : List ℕ
+        new = packed to (applied j.map deed)
+
+        change : Change
+        change = record { maker = who; act = deed }
+
+        rest : List What
+        rest = close_sizes ++ payload_stores new ++ store_meta 26 (flags_of to) ∷ confirmed_by_header new (Commit change)
+
+        go : (b : Bool) → AreStorable r who (cond b (Grow wanted ∷ []) [] ++ store_meta 2 (s.sequence + 1) ∷ store_meta 1 4 ∷ close_sizes ++ payload_stores new ++ store_meta 26 (flags_of to) ∷ confirmed_by_header new (Commit change)) →
+            (record_of (after_all r (cond b (Grow wanted ∷ []) [] ++ store_meta 2 (s.sequence + 1) ∷ store_meta 1 4 ∷ close_sizes ++ payload_stores new ++ store_meta 26 (flags_of to) ∷ confirmed_by_header new (Commit change)))).version ≢ 0
+        go true stored = versioned_first r who 4 (Grow wanted ∷ store_meta 2 (s.sequence + 1) ∷ []) rest (omega arith) stored
+        go false stored = versioned_first r who 4 (store_meta 2 (s.sequence + 1) ∷ []) rest (omega arith) stored
+
+    turn_leads : (row : Row) (to : Bool) (deed : Act) → IsTurn row to deed → s.flag ≡ not to → CanPack s to (applied j.map deed) →
+        replay j.map (commits_of (switching_by s to j.map who deed).events) ≡ applied j.map deed → Leads (switching_by s to j.map who deed) (applied j.map deed) start past
+    turn_leads row to deed turn turns can leaves =
+        let stored = turn_stored row to deed turn can in
+        record {
+          file = turn_file to deed stored;
+          firm = λ none. absurd (turn_firm to deed stored none);
+          stands = λ ok apart. turn_stands row to deed turn turns can ok apart;
+          map = λ ok apart.
+              let commits = commits_of (switching_by s to j.map who deed).events in
+              replay_on (base start) (changes_of past) commits ∙ ap (λ (i : Image). replay i.map commits) (beside.now apart).is ∙ leaves;
+        }
+
     module _ (asked : Call) (now : ℕ) (plan : Plan) (can : CanWrite asked) (is_plan : IsPlanOf who asked now j plan) where
       abbrev either : IsEither who asked now j plan
       either = either_plan who asked now j plan can is_plan
@@ -323,7 +414,9 @@ module _ (who : ℕ) (start : Region) (past : List Event) where
 
           go : IsEither who asked now j plan → PlanStarts who running plan start past
           go (inl p) = by p p.is
-          go (inr (_, p)) = subst (λ (x : Plan). PlanStarts who running x start past) (sym p.is) (rows.Clear, refl, clear_starts clear refl refl p.begun)
+          go (inr (inr p)) =
+              subst (λ (x : Plan). PlanStarts who running x start past) (sym p.is) (p.row, p.turn.alone, turn_starts p.row p.to p.deed p.turn p.turns p.can)
+          go (inr (inl (_, p))) = subst (λ (x : Plan). PlanStarts who running x start past) (sym p.is) (rows.Clear, tt, clear_starts clear refl refl p.begun)
 
       -- and this is where it leads
       pub planned_leads : PlanLeads plan start past
@@ -344,7 +437,9 @@ module _ (who : ℕ) (start : Region) (past : List Event) where
 
           go : IsEither who asked now j plan → PlanLeads plan start past
           go (inl p) = by p p.is
-          go (inr (_, p)) =
+          go (inr (inr p)) =
+              subst (λ (x : Plan). PlanLeads x start past) (sym p.is) (turn_leads p.row p.to p.deed p.turn p.turns p.can (subst (LeavesMap now j) p.is leaves))
+          go (inr (inl (_, p))) =
               let left = subst (LeavesMap now j) p.is leaves in
               subst (λ (x : Plan). PlanLeads x start past) (sym p.is)
-              (rewrite_leads fin.empty clear 0 fin.empty refl (cleared_fits s.flag j.map).pairs p.begun (clear_stands clear refl refl p.begun) left.0)
+              (rewrite_leads fin.empty clear 0 fin.empty refl (cleared_fits s.flag j.map).pairs p.begun (clear_stands clear refl refl p.begun) left)

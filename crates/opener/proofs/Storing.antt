@@ -60,6 +60,8 @@ nothing_stopped (why.Full need) new = refl
 nothing_stopped why.SequenceEnd new = refl
 nothing_stopped why.ExpiryOff new = refl
 nothing_stopped why.ExpiryRange new = refl
+nothing_stopped why.AlreadyOn new = refl
+nothing_stopped why.AlreadyOff new = refl
 
 -- and so whatever a step comes to
 nothing_stored : (result : Step) (new : Work) → AreStoredBy result new []

@@ -1,6 +1,6 @@
 -- The reasons for which a write isn't made.
 use Rattle.std.proofs.Common.{ℕ, ◌+◌, ◌^◌, Bool, true, false, cond, List, length, sym, inl, inr, subst}
-use Rattle.std.specs.Prelude.{Option, Some, None, Ok, Err, is_some, not, nat_lt, ◌==◌, ⊤}
+use Rattle.std.specs.Prelude.{Option, Some, None, Ok, Err, option_map, is_some, not, nat_lt, ◌==◌, ⊤}
 use Rattle.std.specs.FinMap as fin
 use Rattle.expiring_map.specs.Map.{Map}
 use Rattle.expiring_map.specs.Live.{live_part}
@@ -12,7 +12,10 @@ use Rattle.change_log.specs.declared.change.Act.TheVariants as act
 use Rattle.region_words.specs.Rows.{item_of}
 use Rattle.region_words.specs.declared.standing.Standing.{Standing}
 use Rattle.write_back.specs.Rewrites.{file_for}
-use Rattle.opener.specs.Plans.{IsStop, rewrite_refusal, item_refusal, put_refusal, refusal_of, expiry_of, fits_behind}
+use Rattle.expiry_switch.specs.Switches.{enable_refusal, disable_refusal}
+use Rattle.expiry_switch.specs.declared.switching.SwitchStop.{SwitchStop}
+use Rattle.expiry_switch.specs.declared.switching.SwitchStop.TheVariants as switch
+use Rattle.opener.specs.Plans.{IsStop, stop_of_switch, rewrite_refusal, item_refusal, put_refusal, refusal_of, expiry_of, fits_behind}
 use Rattle.opener.specs.declared.calls.Stop.{Stop}
 use Rattle.opener.specs.declared.calls.Stop.TheVariants as why
 
@@ -23,6 +26,8 @@ IsOfWrite (why.Full need) = ⊤
 IsOfWrite why.SequenceEnd = ⊤
 IsOfWrite why.ExpiryOff = ⊤
 IsOfWrite why.ExpiryRange = ⊤
+IsOfWrite why.AlreadyOn = ⊤
+IsOfWrite why.AlreadyOff = ⊤
 IsOfWrite _ = ⊥
 
 abbrev OnReason : Option Stop → Type 0
@@ -53,6 +58,15 @@ put_reason key value seconds now s m = go (seconds == 0) (not s.flag) (nat_lt (n
     go false false true = item_reason s m now (length (item_of s.flag (act.Put key value (now + seconds))))
     go false false false = tt
 
+switch_reason : (why : Option SwitchStop) → OnReason (option_map stop_of_switch why)
+switch_reason None = tt
+switch_reason (Some switch.AlreadyOn) = tt
+switch_reason (Some switch.AlreadyOff) = tt
+switch_reason (Some switch.ExpiryRange) = tt
+switch_reason (Some (switch.Full need)) = tt
+switch_reason (Some switch.SequenceEnd) = tt
+switch_reason (Some switch.Memory) = tt
+
 reason : (asked : Call) (now : ℕ) (s : Standing) (m : Map) → OnReason (refusal_of asked now s m)
 reason (call.Put key value seconds) now s m = put_reason key value seconds now s m
 reason (call.Remove key) now s m = item_reason s m now (length (item_of s.flag (act.Remove key)))
@@ -60,8 +74,8 @@ reason call.Clear now s m = rewrite_reason s fin.empty 0
 reason (call.Get key) now s m = tt
 reason call.Keys now s m = tt
 reason call.Count now s m = tt
-reason (call.Enable seconds) now s m = tt
-reason call.Disable now s m = tt
+reason (call.Enable seconds) now s m = switch_reason (enable_refusal s m now seconds)
+reason call.Disable now s m = switch_reason (disable_refusal s m now)
 reason call.Hold now s m = tt
 reason call.Release now s m = tt
 reason call.Sync now s m = tt

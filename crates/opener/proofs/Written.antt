@@ -18,6 +18,7 @@ use Rattle.region_words.specs.Local.{event_of}
 use Rattle.region_words.specs.Making.{Making, MakesFirst, next_of}
 use Rattle.region_words.specs.Owing.{IsOwing}
 use Rattle.region_words.specs.Rows.{Row}
+use Rattle.region_words.specs.Rows as rows
 use Rattle.region_words.specs.Share.{ShareState, After, stored}
 use Rattle.region_words.specs.Told.{OnTold, changes_told}
 use Rattle.region_words.specs.declared.event.What.{What}
@@ -30,7 +31,7 @@ use Rattle.opener.specs.Opener.{Tied, Facts, ChangeIs, IsLastPlace, KeepsWords, 
 use Rattle.loader.specs.PartialLoads.{IsSoundImage}
 use Rattle.opener.specs.Plans.{CanWrite, events_in}
 use Rattle.opener.specs.Steps.{Steps, StoresFirst}
-use Rattle.opener.specs.Writes.{IsRowOf, IsSoundPlan, Leads, PlanLeads, HasMadeSoFar, commits_of, commits_in, first_events, image_after, making_of}
+use Rattle.opener.specs.Writes.{IsRowOf, IsSoundPlan, StandsAlone, Leads, PlanLeads, HasMadeSoFar, commits_of, commits_in, first_events, image_after, making_of}
 use Rattle.opener.specs.declared.calls.Step.{Step}
 use Rattle.opener.specs.declared.plan.Plan.{Plan}
 use Rattle.opener.specs.declared.plan.Plan.TheVariants.{Append, Rewrite}
@@ -60,8 +61,8 @@ write_act call.Clear now can = (_, refl)
 write_act (call.Get key) now can = absurd can
 write_act call.Keys now can = absurd can
 write_act call.Count now can = absurd can
-write_act (call.Enable seconds) now can = absurd can
-write_act call.Disable now can = absurd can
+write_act (call.Enable seconds) now can = (_, refl)
+write_act call.Disable now can = (_, refl)
 write_act call.Hold now can = absurd can
 write_act call.Release now can = absurd can
 write_act call.Sync now can = absurd can
@@ -73,8 +74,8 @@ write_reply call.Clear m now can = refl
 write_reply (call.Get key) m now can = absurd can
 write_reply call.Keys m now can = absurd can
 write_reply call.Count m now can = absurd can
-write_reply (call.Enable seconds) m now can = absurd can
-write_reply call.Disable m now can = absurd can
+write_reply (call.Enable seconds) m now can = refl
+write_reply call.Disable m now can = refl
 write_reply call.Hold m now can = absurd can
 write_reply call.Release m now can = absurd can
 write_reply call.Sync m now can = absurd can
@@ -107,11 +108,23 @@ pub record EndsWith (who : ℕ) (running : Running) (plan : Plan) (m : Map) : Ty
   pub many : events_in plan ≡ length (first_events plan)
   pub sound : IsSoundPlan who running plan → IsSoundImage (image_after (making_of plan) m)
 
+-- a row that stands alone makes room for none
+alone_calm : (row : Row) → StandsAlone row → room_of row ≡ None
+alone_calm (rows.Append a) is = absurd is
+alone_calm (rows.Pack now need) is = absurd is
+alone_calm rows.Clear is = refl
+alone_calm (rows.Enable now seconds) is = refl
+alone_calm (rows.Disable now) is = refl
+alone_calm rows.Restore is = absurd is
+alone_calm rows.Discard is = absurd is
+alone_calm rows.Recover is = absurd is
+alone_calm rows.SizeRepair is = absurd is
+
 pub append_ends : (who : ℕ) (running : Running) (a : Making) (map : Map) → EndsWith who running (Append a map) map
 append_ends who running a map = record { calm = λ row is. ap room_of is.1; leads = λ start past leads. leads; commits = refl; many = refl; sound = λ sound. sound.1 }
 
 pub rewrite_ends : (who : ℕ) (running : Running) (r : Making) (map : Map) → EndsWith who running (Rewrite r None map) map
-rewrite_ends who running r map = record { calm = λ row is. ap room_of is; leads = λ start past leads. leads; commits = refl; many = omega arith; sound = λ sound. sound.1 }
+rewrite_ends who running r map = record { calm = alone_calm; leads = λ start past leads. leads; commits = refl; many = omega arith; sound = λ sound. sound.1 }
 
 -- its last event is made
 module _ (o : OpenerState) (running next : Running) (plan : Plan) (b : Making) (m : Map) (s t : ShareState) (tied : Tied (running_as o running (stage.Store plan)) s) (last : EndsWith o.who running plan m)

@@ -29,17 +29,13 @@ AfterStop stop.Failed old running stage result new =
 AfterStop stop.Memory old running stage result new = (result ≡ step.Stopped why.Memory) × IsGivenUp old new
 AfterStop stop.JournalFull old running stage result new = (result ≡ step.Stopped why.JournalFull) × IsGivenUp old new
 
--- the calls so far: all but those that switch the expiry
-abbrev pub IsBuilt : Call → Type 0
-IsBuilt (call.Enable seconds) = ⊥
-IsBuilt call.Disable = ⊥
-IsBuilt _ = ⊤
-
 -- a call that changes the map
 abbrev pub is_write : Call → Bool
 is_write (call.Put key value seconds) = true
 is_write (call.Remove key) = true
 is_write call.Clear = true
+is_write (call.Enable seconds) = true
+is_write call.Disable = true
 is_write _ = false
 
 -- a call that finds a map, or changes it

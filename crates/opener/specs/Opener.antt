@@ -42,7 +42,7 @@ use Rattle.opener.specs.Writes.{CanReserve, IsSoundPlan, PlanLeads, PlanStarts, 
 use Rattle.opener.specs.declared.calls.Step.{Step}
 use Rattle.opener.specs.declared.calls.Step.TheVariants as step
 use Rattle.opener.specs.declared.calls.Stop.{Stop}
-use Rattle.opener.specs.declared.calls.Stop.TheVariants.{Fault, Memory, JournalFull, NotWhole, Version, Flags, Full, SequenceEnd, ExpiryOff, ExpiryRange}
+use Rattle.opener.specs.declared.calls.Stop.TheVariants.{Fault, Memory, JournalFull, NotWhole, Version, Flags, Full, SequenceEnd, ExpiryOff, ExpiryRange, AlreadyOn, AlreadyOff}
 use Rattle.opener.specs.declared.work.Running.{Running}
 use Rattle.opener.specs.declared.work.End.{End}
 use Rattle.opener.specs.declared.work.End.TheVariants as end
@@ -332,6 +332,8 @@ IsFoundAt Size (Full need) = ⊤
 IsFoundAt Size SequenceEnd = ⊤
 IsFoundAt Size ExpiryOff = ⊤
 IsFoundAt Size ExpiryRange = ⊤
+IsFoundAt Size AlreadyOn = ⊤
+IsFoundAt Size AlreadyOff = ⊤
 IsFoundAt _ _ = ⊥
 
 -- a write is refused by one that holds exclusive
@@ -340,6 +342,8 @@ IsHeldFor (Full need) t = t.holds ≡ Some Exclusive
 IsHeldFor SequenceEnd t = t.holds ≡ Some Exclusive
 IsHeldFor ExpiryOff t = t.holds ≡ Some Exclusive
 IsHeldFor ExpiryRange t = t.holds ≡ Some Exclusive
+IsHeldFor AlreadyOn t = t.holds ≡ Some Exclusive
+IsHeldFor AlreadyOff t = t.holds ≡ Some Exclusive
 IsHeldFor _ t = ⊤
 
 -- why a call stops

@@ -1,5 +1,5 @@
 -- What a write is to store where an image stands, and why it isn't made.
-use Rattle.std.specs.Prelude.{◌≡◌, ◌⊎◌, ℕ, ◌+◌, ◌^◌, ◌<◌, ◌≤◌, Bool, true, false, List, Result, Ok, Err, Option, Some, None, length, not, is_some, nat_lt, nat_le, ◌==◌, ◌&&◌, if◌then◌else◌, ⊤}
+use Rattle.std.specs.Prelude.{◌≡◌, ◌⊎◌, ℕ, ◌+◌, ◌^◌, ◌<◌, ◌≤◌, Bool, true, false, List, Result, Ok, Err, Option, Some, None, length, not, is_some, option_map, nat_lt, nat_le, ◌==◌, ◌&&◌, if◌then◌else◌, ⊤}
 use Rattle.std.specs.FinMap as fin
 use Rattle.expiring_map.specs.Map.{Map}
 use Rattle.expiring_map.specs.Live.{live_part}
@@ -20,6 +20,9 @@ use Rattle.appender.specs.Appends.{CanAppend, appending}
 use Rattle.write_back.specs.Rewrites.{CanBegin, file_for, rewriting}
 use Rattle.write_back.specs.declared.rewriting.RewriteStop.{RewriteStop}
 use Rattle.write_back.specs.declared.rewriting.RewriteStop.TheVariants as rewrite
+use Rattle.expiry_switch.specs.Switches.{disabling, disable_refusal, enabling, enable_refusal}
+use Rattle.expiry_switch.specs.declared.switching.SwitchStop.{SwitchStop}
+use Rattle.expiry_switch.specs.declared.switching.SwitchStop.TheVariants as switch
 use Rattle.opener.specs.declared.calls.Stop.{Stop}
 use Rattle.opener.specs.declared.calls.Stop.TheVariants as why
 use Rattle.opener.specs.declared.plan.Plan.{Plan}
@@ -30,6 +33,8 @@ abbrev pub CanWrite : Call → Type 0
 CanWrite (call.Put key value seconds) = IsKey key × (0 < length value) × (length value ≤ LONGEST_FIELD) × AreBytes value
 CanWrite (call.Remove key) = IsKey key
 CanWrite call.Clear = ⊤
+CanWrite (call.Enable seconds) = ⊤
+CanWrite call.Disable = ⊤
 CanWrite _ = ⊥
 
 -- the second at which a pair expires that is put now, or why it isn't put
@@ -48,6 +53,15 @@ abbrev pub stop_of : RewriteStop → Stop
 stop_of (rewrite.Full need) = why.Full need
 stop_of rewrite.SequenceEnd = why.SequenceEnd
 stop_of rewrite.Memory = why.Memory
+
+-- the stop of a switch that isn't made
+abbrev pub stop_of_switch : SwitchStop → Stop
+stop_of_switch switch.AlreadyOn = why.AlreadyOn
+stop_of_switch switch.AlreadyOff = why.AlreadyOff
+stop_of_switch switch.ExpiryRange = why.ExpiryRange
+stop_of_switch (switch.Full need) = why.Full need
+stop_of_switch switch.SequenceEnd = why.SequenceEnd
+stop_of_switch switch.Memory = why.Memory
 
 -- why a map isn't written anew, with room for so many bytes
 abbrev pub rewrite_refusal : Standing → Map → ℕ → Option Stop
@@ -69,6 +83,8 @@ abbrev pub refusal_of : Call → ℕ → Standing → Map → Option Stop
 refusal_of (call.Put key value seconds) now s m = put_refusal key value now s m (expiry_of s.flag now seconds)
 refusal_of (call.Remove key) now s m = item_refusal s m now (length (item_of s.flag (act.Remove key)))
 refusal_of call.Clear now s m = rewrite_refusal s fin.empty 0
+refusal_of (call.Enable seconds) now s m = option_map stop_of_switch (enable_refusal s m now seconds)
+refusal_of call.Disable now s m = option_map stop_of_switch (disable_refusal s m now)
 refusal_of _ now s m = None
 
 -- the change's item is appended
@@ -97,9 +113,20 @@ pub record IsClearPlan (who : ℕ) (s : Standing) (plan : Plan) : Type 0 where
   pub begun : CanBegin s fin.empty 0
   pub is : plan ≡ Rewrite (rewriting s fin.empty (record { maker = who; act = act.Clear }) 0) None fin.empty
 
+-- the expiry is switched, on or off
+pub record IsEnablePlan (who now seconds : ℕ) (i : Image) (plan : Plan) : Type 0 where
+  pub begun : enable_refusal i.standing (map_of_image i) now seconds ≡ None
+  pub is : plan ≡ Rewrite (enabling i.standing (map_of_image i) who now seconds) None (applied (map_of_image i) (act.Enable now seconds))
+
+pub record IsDisablePlan (who now : ℕ) (i : Image) (plan : Plan) : Type 0 where
+  pub begun : disable_refusal i.standing (map_of_image i) now ≡ None
+  pub is : plan ≡ Rewrite (disabling i.standing (map_of_image i) who now) None (applied (map_of_image i) (act.Disable now))
+
 -- what a call of this opener stores at a moment, where this image stands
 abbrev pub IsPlanOf : ℕ → Call → ℕ → Image → Plan → Type 0
 IsPlanOf who call.Clear now i plan = IsClearPlan who i.standing plan
+IsPlanOf who (call.Enable seconds) now i plan = IsEnablePlan who now seconds i plan
+IsPlanOf who call.Disable now i plan = IsDisablePlan who now i plan
 IsPlanOf who asked now i plan = (change : Change) × (act_of asked now ≡ Some change.act) × (change.maker ≡ who) × IsItemPlan change now i plan
 
 -- memory is short, or this is the reason
@@ -114,6 +141,12 @@ IsNoItemPlan change now i stop = IsStop (item_refusal i.standing (map_of_image i
 
 abbrev pub IsNoClearPlan : Standing → Stop → Type 0
 IsNoClearPlan s stop = IsStop (rewrite_refusal s fin.empty 0) stop
+
+abbrev pub IsNoEnablePlan : (now seconds : ℕ) → Image → Stop → Type 0
+IsNoEnablePlan now seconds i stop = IsStop (option_map stop_of_switch (enable_refusal i.standing (map_of_image i) now seconds)) stop
+
+abbrev pub IsNoDisablePlan : (now : ℕ) → Image → Stop → Type 0
+IsNoDisablePlan now i stop = IsStop (option_map stop_of_switch (disable_refusal i.standing (map_of_image i) now)) stop
 
 abbrev pub IsNotPlanned : Call → ℕ → Image → Stop → Type 0
 IsNotPlanned asked now i stop = IsStop (refusal_of asked now i.standing (map_of_image i)) stop

@@ -1,5 +1,5 @@
 -- A write that is planned or under way.
-use Rattle.std.specs.Prelude.{◌≡◌, ◌≢◌, ℕ, ◌^◌, ◌<◌, ◌≤◌, List, [], ◌++◌, Some, None, length, flat_map}
+use Rattle.std.specs.Prelude.{◌≡◌, ◌≢◌, ℕ, ◌^◌, ◌<◌, ◌≤◌, List, [], ◌++◌, Some, None, length, flat_map, ⊤}
 use Rattle.expiring_map.specs.Map.{Map}
 use Rattle.change_log.specs.Acts.{act_of, replay}
 use Rattle.change_log.specs.Settled.{AreOfCall}
@@ -70,10 +70,17 @@ pub record CanReserve (plan : Plan) : Type 0 where
   pub few : events_in plan < 2 ^ 32
   pub within : AreWithin (room_in plan) (first_events plan)
 
+-- a row that no other follows in its call
+abbrev pub StandsAlone : Row → Type 0
+StandsAlone rows.Clear = ⊤
+StandsAlone (rows.Enable now seconds) = ⊤
+StandsAlone (rows.Disable now) = ⊤
+StandsAlone _ = ⊥
+
 -- the row of a plan's first events
 abbrev pub IsRowOf : ℕ → Running → Row → Plan → Type 0
 IsRowOf who running row (Append a map) = (act : Act) × (row ≡ rows.Append act)
-IsRowOf who running row (Rewrite r None map) = row ≡ rows.Clear
+IsRowOf who running row (Rewrite r None map) = StandsAlone row
 IsRowOf who running row (Rewrite r (Some a) map) = (now need : ℕ) × (row ≡ rows.Pack now need)
     × ((change : Change) × Follows who running r.standing a change × (need ≡ length (item_of r.standing.flag change.act)))
 

@@ -49,6 +49,12 @@ pub enum Stop {
     /// The pair would expire after second 2^32 - 1.
     #[error("the expiry is past 32 bits")]
     ExpiryRange,
+    /// The pairs of this store expire already.
+    #[error("pairs can expire in this store already")]
+    AlreadyOn,
+    /// The pairs of this store don't expire.
+    #[error("pairs can't expire in this store anyway")]
+    AlreadyOff,
 }
 
 /// Why a call is not begun. The first that holds is named.

@@ -2,7 +2,6 @@
 ghost use Rattle.std.specs.Prelude.{◌≡◌, ℕ, ◌+◌, ◌*◌, ◌≤◌, None, Some, true, IfErr, OnErr, OnOk};
 ghost use Rattle.lock_rules.specs.declared.limits.TheConstants.{MOST_OPENERS};
 ghost use Rattle.region_words.specs.Told.{OnTold, changes_told as changes_seen};
-ghost use Rattle.opener.specs.Calls.{IsBuilt};
 ghost use Rattle.opener.specs.Begins.{Begins, HasBytes, IsFirst, begun_at, refusal};
 ghost use Rattle.opener.specs.Adds.{AddsTo};
 ghost use Rattle.opener.specs.Opener.{Tied, running_as, HasCause, IsAnswer, KeepsWork, OnAnswer, MakesOne, is_ended, stop_found};
@@ -68,11 +67,9 @@ impl Opener {
         }
     }
 
-    /// Begins a call at a moment, in seconds. So far `Enable` and `Disable` are not among the calls. Where it is refused,
-    /// nothing changes.
+    /// Begins a call at a moment, in seconds. Where it is refused, nothing changes.
     pub fn begin<S: Share>(&mut self, share: &S, call: Call, now: u32) -> Result<(), NotBegun>
-        requires tied { Tied self.old (S.state share.now) }
-        requires built { IsBuilt call }
+        requires { Tied self.old (S.state share.now) }
         ensures tied { Tied self.new (S.state share.now) }
         ensures ok { OnOk result (Begins call now (changes_seen (S.state share.now).told) self.old self.new) }
         ensures first { OnOk result (refusal self.old call ≡ None) }

@@ -5,13 +5,14 @@ ghost use Rattle.region_words.specs.Rows.{item_of, IsAppendable};
 ghost use Rattle.appender.specs.Appends.{CanAppend, appending};
 ghost use Rattle.opener.specs.Counted.{counted};
 ghost use Rattle.loader.specs.PartialLoads.{IsSoundImage, IsSoundStanding};
-ghost use Rattle.opener.specs.Plans.{CanWrite, IsPlanOf, IsItemPlan, IsRoomPlan, IsClearPlan, IsNotPlanned, IsNoItemPlan, IsNoRoomPlan, IsNoClearPlan, expiry_of, fits_behind, events_in, room_in, stop_of};
+ghost use Rattle.opener.specs.Plans.{CanWrite, IsPlanOf, IsItemPlan, IsRoomPlan, IsClearPlan, IsEnablePlan, IsDisablePlan, IsNotPlanned, IsNoItemPlan, IsNoRoomPlan, IsNoClearPlan, IsNoEnablePlan, IsNoDisablePlan, expiry_of, fits_behind, events_in, room_in, stop_of, stop_of_switch};
 ghost use Rattle.opener.specs.declared.calls.Stop.TheVariants as why;
 
 use crate::calls::Stop;
 use appender::start_append;
 use change_log::{Act, Call, Change, apply};
 use expiring_map::{Bytes, ExpiringMap, Memory};
+use expiry_switch::{SwitchStop, start_disable, start_enable};
 use kv_pairs::item_size;
 use loader::Image;
 use region_words::{RowMaker, Standing};
@@ -66,7 +67,7 @@ impl Plan {
     }
 }
 
-/// What a put, remove or clear of this opener stores at a moment where this image stands.
+/// What a write of this opener stores at a moment where this image stands.
 pub fn plan_of(alloc: Global, who: u32, call: &Call, now: u32, image: Image) -> Result<Plan, Stop>
     requires asked { CanWrite call.now }
     requires image { IsSoundImage image }
@@ -89,6 +90,8 @@ pub fn plan_of(alloc: Global, who: u32, call: &Call, now: u32, image: Image) -> 
             let act = Act::Remove { key };
             plan_item(alloc, Change { maker: who, act }, now, image)
         }
+        Call::Enable { seconds } => plan_enable(alloc, who, now, *seconds, image),
+        Call::Disable => plan_disable(alloc, who, now, image),
         _ => plan_clear(alloc, who, &image.standing),
     }
 }
@@ -177,6 +180,36 @@ fn plan_clear(alloc: Global, who: u32, standing: &Standing) -> Result<Plan, Stop
     })
 }
 
+// The pairs anew, to expire from now on.
+fn plan_enable(alloc: Global, who: u32, now: u32, seconds: u32, image: Image) -> Result<Plan, Stop>
+    requires { IsSoundImage image }
+    ensures ok { IfOk result (λ plan. IsEnablePlan who now seconds image plan) }
+    ensures err { IfErr result (λ stop. IsNoEnablePlan now seconds image stop) }
+{
+    let standing = image.standing;
+    let (rewriting, map) = start_enable(alloc, &standing, image.map, who, now, seconds)?;
+    Ok(Plan::Rewrite {
+        rewriting,
+        then: None,
+        map,
+    })
+}
+
+// The live pairs anew, to live for ever.
+fn plan_disable(alloc: Global, who: u32, now: u32, image: Image) -> Result<Plan, Stop>
+    requires { IsSoundImage image }
+    ensures ok { IfOk result (λ plan. IsDisablePlan who now image plan) }
+    ensures err { IfErr result (λ stop. IsNoDisablePlan now image stop) }
+{
+    let standing = image.standing;
+    let (rewriting, map) = start_disable(alloc, &standing, image.map, who, now)?;
+    Ok(Plan::Rewrite {
+        rewriting,
+        then: None,
+        map,
+    })
+}
+
 // The append of a change, and the map that it leaves.
 fn append_to(
     alloc: Global,
@@ -246,6 +279,21 @@ impl From<RewriteStop> for Stop {
             RewriteStop::Full { need } => Stop::Full { need },
             RewriteStop::SequenceEnd => Stop::SequenceEnd,
             RewriteStop::Memory => Stop::Memory,
+        }
+    }
+}
+
+impl From<SwitchStop> for Stop {
+    ghost from_gives = { λ from stop. stop ≡ stop_of_switch from };
+
+    fn from(stop: SwitchStop) -> Stop {
+        match stop {
+            SwitchStop::AlreadyOn => Stop::AlreadyOn,
+            SwitchStop::AlreadyOff => Stop::AlreadyOff,
+            SwitchStop::ExpiryRange => Stop::ExpiryRange,
+            SwitchStop::Full { need } => Stop::Full { need },
+            SwitchStop::SequenceEnd => Stop::SequenceEnd,
+            SwitchStop::Memory => Stop::Memory,
         }
     }
 }

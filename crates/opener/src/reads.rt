@@ -309,7 +309,10 @@ impl Opener {
 pub(crate) fn is_write(call: &Call) -> bool
     ensures { result ≡ is_write call.now }
 {
-    matches!(call, Call::Put { .. } | Call::Remove { .. } | Call::Clear)
+    matches!(
+        call,
+        Call::Put { .. } | Call::Remove { .. } | Call::Clear | Call::Enable { .. } | Call::Disable
+    )
 }
 
 fn answer_of(who: u32, running: Running, place: u32, ended: u32, reply: Reply) -> Answer

@@ -1,6 +1,5 @@
 // Calls of a new opener, over a region in memory and over any other share.
 ghost use Rattle.std.specs.Prelude.{◌≡◌, false, None, IfOk, IfSome};
-ghost use Rattle.opener.specs.Calls.{IsBuilt};
 ghost use Rattle.opener.specs.Opener.{Tied};
 
 use change_log::Call;
@@ -59,8 +58,7 @@ fn finish<S: Share>(opener: &mut Opener, share: &mut S, most: u32) -> Step
 
 // A whole call.
 pub(crate) fn ask<S: Share>(opener: &mut Opener, share: &mut S, call: Call) -> End
-    requires tied { Tied opener.old (S.state share.old) }
-    requires built { IsBuilt call }
+    requires { Tied opener.old (S.state share.old) }
     ensures { Tied opener.new (S.state share.new) }
 {
     match opener.begin(share, call, 100) {
@@ -77,7 +75,6 @@ pub(crate) fn first_end(
     fails: &[u64],
     call: Call,
 ) -> Option<End>
-    requires { IsBuilt call }
 {
     let mut seat = opened(alloc, body, meta, fails)?;
     let mut opener = opener_of(alloc, &seat)?;
@@ -87,7 +84,6 @@ pub(crate) fn first_end(
 }
 
 pub(crate) fn get(alloc: Global) -> Result<Call, Memory>
-    ensures { IfOk result IsBuilt }
 {
     Ok(Call::Get {
         key: Bytes::copy_of(alloc, b"k")?,
@@ -95,7 +91,6 @@ pub(crate) fn get(alloc: Global) -> Result<Call, Memory>
 }
 
 pub(crate) fn put(alloc: Global, seconds: u32) -> Result<Call, Memory>
-    ensures { IfOk result IsBuilt }
 {
     Ok(Call::Put {
         key: Bytes::copy_of(alloc, b"k")?,

@@ -11,3 +11,5 @@ mod random_stores;
 mod runs;
 #[cfg(test)]
 mod second_reading;
+#[cfg(test)]
+mod switches;

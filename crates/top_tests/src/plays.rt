@@ -44,7 +44,7 @@ fn one_handler(alloc: Global) -> Result<HandlerStock, AllocError> {
 }
 
 // The status and the text of `play` of a script, on a store of these files; the reads of these numbers fail.
-fn played_on(
+pub(crate) fn played_on(
     alloc: Global,
     body: Vec<u8>,
     meta: &[u8],
@@ -70,7 +70,7 @@ fn played(alloc: Global, script: &[u8]) -> Result<(u8, Vec<u8>), Memory> {
 }
 
 // These pieces one after another.
-fn joined(alloc: Global, pieces: &[&[u8]]) -> Result<Vec<u8>, AllocError> {
+pub(crate) fn joined(alloc: Global, pieces: &[&[u8]]) -> Result<Vec<u8>, AllocError> {
     let mut all = Vec::new(alloc);
     for piece in pieces {
         all.extend_from_slice(piece)?;
@@ -124,8 +124,8 @@ fn the_first_line_that_cannot_be_done_is_named(rt: HostRuntime) -> Result<(), Fa
         (b"open discard\n", b"script 1\n"),
         (b"open leave\ndie 1\n", b"script 2\n"),
         (b"open leave\ncall 1 1 count\n", b"script 2\n"),
-        (b"open leave\nbegin 1 1 enable 5\n", b"script 2\n"),
-        (b"open leave\nbegin 1 1 disable\n", b"script 2\n"),
+        (b"open leave\nbegin 1 1 enable\n", b"script 2\n"),
+        (b"open leave\nbegin 1 1 disable 0\n", b"script 2\n"),
         (b"open leave\nbegin 1 1 put - raw 00 0\n", b"script 2\n"),
         (b"open leave\nbegin 1 1 release\n", b"script 2\n"),
         (
@@ -186,7 +186,7 @@ fn a_store_without_a_whole_image_is_not_played_on_yet(rt: HostRuntime) -> Result
 }
 
 // A store with the key a and a value of 4,000 dots: 4,008 bytes. The checksum is that of zlib.
-fn large_store(alloc: Global, sequence: u32) -> Result<(Vec<u8>, Vec<u8>), Memory> {
+pub(crate) fn large_store(alloc: Global, sequence: u32) -> Result<(Vec<u8>, Vec<u8>), Memory> {
     let body = joined(
         alloc,
         &[b"\xa8\x0f\0\0\xff\xff\xff\x07\x01a\xa0\x1f", &[b'.'; 4000]],
@@ -212,7 +212,7 @@ fn put_into_large(alloc: Global, sequence: u32, count: usize) -> Result<(u8, Vec
     played_on(alloc, body, &meta, &script, &[])
 }
 
-fn has(text: &[u8], piece: &[u8]) -> bool {
+pub(crate) fn has(text: &[u8], piece: &[u8]) -> bool {
     text.contains_str(piece)
 }
 

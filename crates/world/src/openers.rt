@@ -1,7 +1,6 @@
 // Openers by their numbers, and what they do to the region that they share.
 ghost use Rattle.std.specs.Prelude.{◌≡◌, ◌≢◌, ◌+◌, ◌++◌, ◌∷◌, [], ◌<◌, ◌≤◌, Bool, None, IfErr, IfOk, IfSome, OnErr, OnOk, false, length, slice_get, slice_set, vec_capacity, vec_len};
 ghost use Rattle.region_words.specs.Local.{seat_state};
-ghost use Rattle.opener.specs.Calls.{IsBuilt};
 ghost use Rattle.opener.specs.Opener.{Tied, is_ended};
 ghost use Rattle.opener.specs.Settles.{answers_by};
 ghost use Rattle.opener.specs.State.{OpenerState};
@@ -101,7 +100,6 @@ pub(crate) fn begin_at(
     requires world { IsWorld seat.old.region openers.old.items answers.now.items }
     requires inside { place < vec_len openers.old }
     requires alive { (o : OpenerState) → slice_get openers.old.items place ≡ Some o → is_ended o.work ≡ false }
-    requires built { IsBuilt call }
     ensures world { IsWorld seat.new.region openers.new.items answers.now.items }
     ensures ok { (noted : Bool) → OnOk result (Begun (place + 1) call now (world_of seat.old openers.old.items answers.now.items noted) (world_of seat.new openers.new.items answers.now.items noted)) }
     ensures err { (noted : Bool) → IfErr result (λ why. IsNotBegun why (place + 1) call (world_of seat.old openers.old.items answers.now.items noted)) }

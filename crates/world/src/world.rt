@@ -1,6 +1,5 @@
 // A world: a region in memory, the openers that were opened in it, and what they answered.
 ghost use Rattle.std.specs.Prelude.{◌≡◌, ◌↔◌, [], None, IfErr, IfOk, IsTrue, OnErr, OnOk, false, replicate, true};
-ghost use Rattle.opener.specs.Calls.{IsBuilt};
 ghost use Rattle.opener.specs.Opener.{stop_found};
 ghost use Rattle.opener.specs.State.{OpenerState};
 ghost use Rattle.region_words.specs.Local.{no_account};
@@ -105,10 +104,8 @@ impl World {
         )
     }
 
-    /// Begins a call of an opener at a moment, in seconds. So far `Enable` and `Disable` are not among the calls. Room is kept for
-    /// its answer. Where it isn't begun, nothing changes.
+    /// Begins a call of an opener at a moment, in seconds. Room is kept for its answer. Where it isn't begun, nothing changes.
     pub fn begin(&mut self, who: u32, call: Call, now: u32) -> Result<(), WorldStop>
-        requires { IsBuilt call }
         ensures sound { IsSound self.new }
         ensures ok { OnOk result (Begun who call now self.old self.new) }
         ensures err { IfErr result (λ why. IsNotBegun why who call self.old) }

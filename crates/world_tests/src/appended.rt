@@ -1,7 +1,4 @@
 // What a call loads after another opener has changed the store.
-ghost use Rattle.std.specs.Prelude.{IfOk};
-ghost use Rattle.opener.specs.Calls.{IsBuilt};
-
 use crate::worlds::{finish, get, put, stored};
 use change_log::{Answer, Call};
 use expiring_map::{Bytes, Memory};
@@ -9,9 +6,7 @@ use std::alloc::Global;
 use std::test::Fail;
 use world::{Moved, World};
 
-fn remove(alloc: Global, key: &[u8]) -> Result<Call, Memory>
-    ensures { IfOk result IsBuilt }
-{
+fn remove(alloc: Global, key: &[u8]) -> Result<Call, Memory> {
     Ok(Call::Remove {
         key: Bytes::copy_of(alloc, key)?,
     })
@@ -35,9 +30,7 @@ fn last(world: &World) -> Option<[u32; 6]> {
 }
 
 // A whole call of an opener.
-fn ask(world: &mut World, who: u32, call: Call) -> Option<[u32; 6]>
-    requires { IsBuilt call }
-{
+fn ask(world: &mut World, who: u32, call: Call) -> Option<[u32; 6]> {
     world.begin(who, call, 100).ok()?;
     match finish(world, who) {
         Moved::Answered(_) => last(world),

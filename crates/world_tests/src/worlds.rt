@@ -1,6 +1,5 @@
 // Worlds to test with, and what they answer.
 ghost use Rattle.std.specs.Prelude.{◌≡◌, [], IfOk, IfSome};
-ghost use Rattle.opener.specs.Calls.{IsBuilt};
 
 use change_log::Call;
 use expiring_map::{Bytes, Memory};
@@ -60,7 +59,6 @@ pub(crate) fn stored(alloc: Global, fails: &[u64], count: u32) -> Option<World> 
 }
 
 pub(crate) fn get(alloc: Global) -> Result<Call, Memory>
-    ensures { IfOk result IsBuilt }
 {
     Ok(Call::Get {
         key: Bytes::copy_of(alloc, b"k")?,
@@ -68,7 +66,6 @@ pub(crate) fn get(alloc: Global) -> Result<Call, Memory>
 }
 
 pub(crate) fn put(alloc: Global, key: &[u8], value: &[u8]) -> Result<Call, Memory>
-    ensures { IfOk result IsBuilt }
 {
     Ok(Call::Put {
         key: Bytes::copy_of(alloc, key)?,

@@ -11,7 +11,7 @@ use Rattle.mmkv_top.proofs.moves.begin.Goals as goal
 pub returns-in-Ok-clause-taken : goal.returns-in-Ok-clause-taken
 returns-in-Ok-clause-taken g c = λ stock left start parts text at.
     let b = c.in-Ok.ensures.ok in
-    begin_taken stock left start parts (play_state c.args.world.now text) (play_state c.begin.new.self text) c.args.who c.args.now c.args.call b.0 b.1 (c.is_built.ensures.0 c.if-not-is_built.false)
+    begin_taken stock left start parts (play_state c.args.world.now text) (play_state c.begin.new.self text) c.args.who c.args.now c.args.call b.0 b.1
     c.begin.ensures.sound at b.2 refl
 
 pub returns-in-Err-clause-taken : goal.returns-in-Err-clause-taken

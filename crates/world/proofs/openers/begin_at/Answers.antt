@@ -4,8 +4,8 @@ use Rattle.std.proofs.lemmas.Option.{slice_get_read}
 use Rattle.world.proofs.Turns.{calls_begun, lives_at, seated, world_begun, world_kept}
 use Rattle.world.proofs.openers.begin_at.Goals as goal
 
-pub begin-requires-clause-tied : goal.begin-requires-clause-tied
-begin-requires-clause-tied g c =
+pub begin-requires : goal.begin-requires
+begin-requires g c =
     let items = c.args.openers.now.items in
     let o = c.index_mut.result.now in
     let at : slice_get items c.args.place ≡ Some o = slice_get_read items (length items) c.args.place o (λ i. length items) (omega (arith, c.requires.inside, c.args.openers.now.ok.0)) c.index_mut.ensures.value in

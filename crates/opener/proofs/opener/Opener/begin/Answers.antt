@@ -14,7 +14,7 @@ use Rattle.opener.proofs.opener.Opener.begin.Goals as goal
 pub returns-clause-tied : goal.returns-clause-tied
 returns-clause-tied g c =
     let o = c.args.self.now in
-    begun_tied o c.run.new.self c.args.call c.args.now c.changes-begun.result (g.S.Share.state c.args.share.now) c.requires.tied c.requires.built (c.refusal.ensures.bytes c.in_default.is) (sym c.refusal.ensures.why ∙ c.in_default.is)
+    begun_tied o c.run.new.self c.args.call c.args.now c.changes-begun.result (g.S.Share.state c.args.share.now) c.requires (c.refusal.ensures.bytes c.in_default.is) (sym c.refusal.ensures.why ∙ c.in_default.is)
     c.changes-begun.ensures c.first_stage-stage.result c.first_stage-stage.ensures (c.run.ensures ∙ ap (λ (r : Running). running_as o r c.first_stage-stage.result) c.begun_at.ensures)
 
 pub returns-clause-bound : goal.returns-clause-bound
