@@ -94,6 +94,8 @@ after_stop P idle ended who holds running next (stop.Full need) k = subst P (sym
 after_stop P idle ended who holds running next stop.SequenceEnd k = subst P (sym k.0) idle
 after_stop P idle ended who holds running next stop.ExpiryOff k = subst P (sym k.0) idle
 after_stop P idle ended who holds running next stop.ExpiryRange k = subst P (sym k.0) idle
+after_stop P idle ended who holds running next stop.AlreadyOn k = subst P (sym k.0) idle
+after_stop P idle ended who holds running next stop.AlreadyOff k = subst P (sym k.0) idle
 
 -- what a call has counted so far, after a step
 pub counted_on : (o next : OpenerState) (came : Step) (work : Work) → o.work ≡ work → KeepsWork o came next →
