@@ -256,7 +256,7 @@ module _ (stock left : Stock) (start : Region) (parts : List Part) (p q : PlaySt
         answers = b.answers;
         text = text;
         may = (record { alive = lives_in parts p.world.openers who o at.count at.live b.lives; idle = free.0; asks = subst (λ h. call_refusal call h ≡ None) op.holds free.1 }, (refl, refl));
-        playable = built;
+        playable = tt;
         count = count_now ∙ sym (ap length kept);
         open_to = subst (λ n. IsOpenTo n q.world.region) (sym (ap length kept)) (subst (λ (l : Local). IsOpenTo (length (strategies parts)) l) (sym b.region) at.open_to);
         drawn = drawn_still stock left start parts (Some (Begin who now call)) refl at.drawn;
