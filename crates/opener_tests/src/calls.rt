@@ -33,7 +33,7 @@ pub(crate) enum End {
     Stopped(Stop),
 }
 
-fn end_of(step: Step) -> End {
+pub(crate) fn end_of(step: Step) -> End {
     match step {
         Step::Answered(_) => End::Answered,
         Step::Stopped(stop) => End::Stopped(stop),
@@ -42,7 +42,7 @@ fn end_of(step: Step) -> End {
 }
 
 // The steps of the call that runs, to its end or to so many.
-fn finish<S: Share>(opener: &mut Opener, share: &mut S, most: u32) -> Step
+pub(crate) fn finish<S: Share>(opener: &mut Opener, share: &mut S, most: u32) -> Step
     requires { Tied opener.old (S.state share.old) }
     ensures { Tied opener.new (S.state share.new) }
 {
