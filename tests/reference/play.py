@@ -650,7 +650,7 @@ class Opener:
         one too."""
         image = self.image
         payload = packed(pairs, image.expires)
-        events = self.first_events(len(payload), need, len(pairs), file_size)
+        events, new_file = self.first_events(len(payload), need, len(pairs), file_size)
         size, checksum = len(payload), zlib.crc32(payload)
         if image.version == 0:
             events.append((self.region.store_meta, VERSION, 3))
@@ -665,8 +665,9 @@ class Opener:
         self.image = Image(pairs, bytearray(payload), checksum, image.sequence + 1, image.version or 3, image.expires, new_file)
         return events
 
-    def first_events(self, size: int, need: int, pairs: int, file_size: int) -> List[Operation]:
-        """What comes first where an image of that many bytes is put in the old one's place: a growth, where it is needed, and the sequence."""
+    def first_events(self, size: int, need: int, pairs: int, file_size: int) -> Tuple[List[Operation], int]:
+        """What comes first where an image of that many bytes is put in the old one's place: a growth, where it is needed, and the sequence;
+        and the file's size afterwards."""
         wanted = 4 + size + need
         if wanted > LARGEST_DATA:
             raise Stop(f'full {wanted} {LARGEST_DATA}')
@@ -674,7 +675,7 @@ class Opener:
             raise Stop('sequence-end')
         new_file = grown_size(size, need, pairs, file_size)
         events: List[Operation] = [(self.region.grow, new_file)] if new_file > file_size else []
-        return events + [(self.region.store_meta, SEQUENCE, self.image.sequence + 1)]
+        return events + [(self.region.store_meta, SEQUENCE, self.image.sequence + 1)], new_file
 
     def switch_events(self, call: Call, now: int, file_size: int) -> List[Operation]:
         """The other flag, and an image of the pairs under it. All three sizes are closed before the first word of the payload, and the
@@ -683,7 +684,8 @@ class Opener:
         expires = call.name == 'enable'
         payload = packed(pairs, expires)
         size, checksum = len(payload), zlib.crc32(payload)
-        events = self.first_events(size, 0, len(pairs), file_size) + [
+        events, new_file = self.first_events(size, 0, len(pairs), file_size)
+        events += [
             (self.region.store_meta, VERSION, 4),
             (self.region.store_meta, RECORD_SIZE, CLOSED),
             (self.region.store_data, HEADER, CLOSED),
@@ -698,7 +700,7 @@ class Opener:
             (self.region.store_meta, RECORD_SIZE, size),
             (self.region.store_meta, LAST_SIZE, size),
         ]
-        self.image = Image(pairs, bytearray(payload), checksum, self.image.sequence + 1, 4, expires)
+        self.image = Image(pairs, bytearray(payload), checksum, self.image.sequence + 1, 4, expires, new_file)
         return events
 
     def enabled(self, call: Call, now: int) -> Tuple[Pairs, str]:
