@@ -8,6 +8,7 @@ use Rattle.handlers.specs.declared.handler.Strategy.{Strategy}
 use Rattle.handlers.specs.declared.handler.Strategy.TheVariants.{Discard, Recover, Leave}
 use Rattle.handlers.specs.declared.stock.HandlerStock.{HandlerStock}
 use Rattle.lock_rules.specs.Locks.{IsLeastAgainst, MayTake}
+use Rattle.lock_rules.specs.declared.limits.TheConstants.{MOST_OPENERS}
 use Rattle.lock_rules.specs.declared.table.LockKind.{LockKind}
 use Rattle.lock_rules.specs.declared.table.LockKind.TheVariants.{Exclusive}
 use Rattle.meta_record.specs.declared.shown.Shown.TheVariants.{Whole}
@@ -68,7 +69,7 @@ pub record MayStart (parts : List Part) (who : ℕ) (call : Call) : Type 0 where
 
 -- what a line names may be done after these
 abbrev pub MayCome : Stock → List Part → Line → Type 0
-MayCome stock parts (Open strategy) = (length (strategies parts) < 64) × (drawn strategy (strategies parts) < stocked stock strategy)
+MayCome stock parts (Open strategy) = (length (strategies parts) < MOST_OPENERS) × (drawn strategy (strategies parts) < stocked stock strategy)
 MayCome stock parts (Begin who now call) = MayStart parts who call
 MayCome stock parts (Step who count) = IsTrue (lives who parts)
 MayCome stock parts (Die who bits) = IsTrue (lives who parts)

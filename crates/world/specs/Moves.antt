@@ -3,6 +3,7 @@ use Rattle.std.specs.Prelude.{◌≡◌, ◌≢◌, ℕ, ◌+◌, ◌-◌, ◌*�
 use Rattle.change_log.specs.History.{Legal}
 use Rattle.change_log.specs.declared.call.Answer.{Answer}
 use Rattle.change_log.specs.declared.call.Call.{Call}
+use Rattle.lock_rules.specs.declared.limits.TheConstants.{MOST_OPENERS}
 use Rattle.region_words.specs.Apart.{Apart}
 use Rattle.region_words.specs.Local.{LacksPlaces, Seated, account_of, after_admission, with_account}
 use Rattle.region_words.specs.Outcome.{AtRest, ShowsHistory}
@@ -44,7 +45,7 @@ new_opener who = record { who = who; handled = true; image = None; holds = 0; wo
 -- an opener was opened, with the next number, and has made no call
 pub record Opens (who : ℕ) (old new : WorldState) : Type 0 where
   pub number : who ≡ length old.openers + 1
-  pub least : length old.openers < 64
+  pub least : length old.openers < MOST_OPENERS
   pub openers : new.openers ≡ old.openers ++ new_opener who ∷ []
   pub answers : new.answers ≡ old.answers
   pub noted : new.noted ≡ old.noted
@@ -57,9 +58,9 @@ stop_of_admission admit.Memory = opening.Memory
 
 -- why none was opened: the most are there, which is looked at first; or the journal has no place for one more death
 abbrev pub IsNotOpened : OpenStop → WorldState → Type 0
-IsNotOpened opening.TooMany w = length w.openers ≡ 64
-IsNotOpened opening.JournalFull w = (length w.openers < 64) × LacksPlaces w.region 1 admit.JournalFull
-IsNotOpened opening.Memory w = length w.openers < 64
+IsNotOpened opening.TooMany w = length w.openers ≡ MOST_OPENERS
+IsNotOpened opening.JournalFull w = (length w.openers < MOST_OPENERS) × LacksPlaces w.region 1 admit.JournalFull
+IsNotOpened opening.Memory w = length w.openers < MOST_OPENERS
 
 -- the call of an opener runs, and has made no step
 pub record BeginsCall (who : ℕ) (asked : Call) (now : ℕ) (o next : OpenerState) (old new : WorldState) : Type 0 where
@@ -91,7 +92,7 @@ pub record Steps (who : ℕ) (o next : OpenerState) (came : Step) (old new : Wor
   pub start : new.region.start ≡ old.region.start
   pub noted : new.noted ≡ old.noted
   pub makes : MakesOne (share_of old.region who) (share_of new.region who)
-  pub others : (w : ℕ) → 1 ≤ w → w ≤ 64 → w ≢ who → loads_of new w ≡ loads_of old w
+  pub others : (w : ℕ) → 1 ≤ w → w ≤ MOST_OPENERS → w ≢ who → loads_of new w ≡ loads_of old w
   pub adds : AddsTo o.who o.work came next.work (share_of old.region who) (share_of new.region who)
   pub call : KeepsWork o came next
   pub cause : HasCause o.work came next.work (share_of old.region who) (share_of new.region who)

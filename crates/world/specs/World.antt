@@ -2,6 +2,7 @@
 use Rattle.std.specs.Prelude.{◌≡◌, ℕ, ◌+◌, ◌-◌, ◌<◌, ◌≤◌, Bool, true, false, List, [], length, filter, slice_get, All, Some}
 use Rattle.change_log.specs.EachCaller.{answers_of}
 use Rattle.change_log.specs.declared.call.Answer.{Answer}
+use Rattle.lock_rules.specs.declared.limits.TheConstants.{MOST_OPENERS}
 use Rattle.region_words.specs.Lawful.{Lawful}
 use Rattle.region_words.specs.Local.{Local, account_of, kept_after, seat_state}
 use Rattle.region_words.specs.Past.{NoneOf}
@@ -51,7 +52,7 @@ pub record IsUnused (l : Local) (answers : List Answer) (who : ℕ) : Type 0 whe
 
 -- what is true of every world
 pub record IsWorld (l : Local) (openers : List OpenerState) (answers : List Answer) : Type 0 where
-  pub few : length openers ≤ 64
+  pub few : length openers ≤ MOST_OPENERS
   pub accepted : IsAccepted l.start
   pub lawful : Lawful l.start l.past
   pub each : (i : ℕ) (o : OpenerState) → slice_get openers i ≡ Some o → OpenerIs l answers (i + 1) o

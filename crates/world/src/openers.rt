@@ -18,7 +18,7 @@ use std::alloc::Global;
 use std::mem;
 
 /// How many openers a world takes.
-pub const MOST_OPENERS: usize = 64;
+pub const MOST_OPENERS: usize = lock_rules::MOST_OPENERS as usize;
 
 // The place of the opener of this number, where it lives.
 pub(crate) fn place_of(openers: &[Opener], who: u32) -> Option<usize>
