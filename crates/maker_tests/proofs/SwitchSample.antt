@@ -1,5 +1,5 @@
 -- A fresh region in memory: its holder may switch the expiry on.
-use Rattle.std.proofs.Common.{◌≡◌, ℕ, ◌<◌, ◌≤◌, ◌^◌, List, [], ◌∷◌, ◌++◌, Bool, false, refl, sym, subst, ap, ◌∙◌, lit≤, lit<, arith, inr}
+use Rattle.std.proofs.Common.{◌≡◌, ℕ, ◌<◌, ◌≤◌, ◌^◌, List, [], ◌∷◌, ◌++◌, Bool, true, false, refl, sym, subst, ap, ◌∙◌, lit≤, lit<, arith, inr}
 use Rattle.std.specs.Prelude.{None, IsSome, map}
 use Rattle.std.specs.Ordering.{nat_cmp}
 use Rattle.std.specs.Cmp.Lexicographic.{slice_cmp}
@@ -71,7 +71,7 @@ coming =
     record {
       phase = Between None;
       reached = (Between None, refl, refl);
-      next = subst (λ m. MayComeNext sample m 1 (Between None) (Enable 100 0) stores) (sym no_pairs) (begins, sym row);
+      next = subst (λ m. MayComeNext sample m 1 (Between None) (Enable 100 0) stores) (sym no_pairs) (begins, sym row, refl);
     }
 
 storable : AreStorable sample 1 stores

@@ -41,16 +41,17 @@ const AFTER: Standing = Standing {
 };
 
 // The switch of a fresh store at second 100, by opener 1.
-fn enabling(alloc: Global) -> Result<(RowMaker, ExpiringMap), SwitchStop>
-    ensures { IfOk result (λ made. made.0 ≡ enabling FRESH fin.empty 1 100 0) }
+fn enabling(alloc: Global) -> Result<RowMaker, SwitchStop>
+    ensures { IfOk result (λ maker. maker ≡ enabling FRESH fin.empty 1 100 0) }
 {
-    start_enable(alloc, &FRESH, ExpiringMap::new(alloc), 1, 100, 0)
+    let (maker, _) = start_enable(alloc, &FRESH, ExpiringMap::new(alloc), 1, 100, 0)?;
+    Ok(maker)
 }
 
 #[test]
 fn a_switch_of_no_pairs_stores_twelve_words(rt: HostRuntime) -> Result<(), Fail> {
-    let (maker, map) = enabling(rt.alloc())?;
-    assert_eq!(rt; (maker.events(), maker.room(), map.len()), (12, 0, 0));
+    let maker = enabling(rt.alloc())?;
+    assert_eq!(rt; (maker.events(), maker.room()), (12, 0));
     Ok(())
 }
 
@@ -91,7 +92,7 @@ fn the_flag_is_looked_at_before_the_expiry_and_the_sequence(rt: HostRuntime) {
 fn switching(alloc: Global) -> Option<(RowMaker, LocalSeat)>
     ensures { IfSome result (λ r. (row : Row) × IsOwing row r.0.events (seat_state r.1)) }
 {
-    let (maker, _) = enabling(alloc).ok()?;
+    let maker = enabling(alloc).ok()?;
     let mut seat = opened(alloc, b"", b"", &[])?;
     match seat.try_lock(LockKind::Exclusive) {
         Ok(Tried::Taken) => {}

@@ -23,7 +23,7 @@ returns-in-Ok c =
     let t = c.try_lock.new.self in
     let u = c.reserve.new.self in
     let is : c.in_ok-maker.maker ≡ enabling known fin.empty 1 100 0 =
-    kept c.enabling.result (λ m. m ≡ enabling known fin.empty 1 100 0) c.in_ok-maker.maker c.in_ok-maker.ensures.value c.enabling.ensures in
+    kept c.enabling.result (λ maker. maker ≡ enabling known fin.empty 1 100 0) c.in_ok-maker.maker c.in_ok-maker.ensures.value c.enabling.ensures in
     let tried = subst (λ tried. Tries Exclusive tried (seat_state s) (seat_state t)) c.in-Ok-Taken.field-0-is c.in-Ok-Taken.ensures.ok in
     let seat = c.in_ok-seat.ensures in (
       Enable 100 0,
