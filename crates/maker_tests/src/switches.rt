@@ -11,9 +11,7 @@ use crate::seen::seen_in;
 use expiring_map::ExpiringMap;
 use expiry_switch::{SwitchStop, start_disable, start_enable};
 use lock_rules::{LockKind, Tried};
-use region_words::{
-    LocalRegion, LocalSeat, RowMaker, Share, ShareStop, Side, Standing, Stored,
-};
+use region_words::{LocalRegion, LocalSeat, RowMaker, Share, ShareStop, Side, Standing, Stored};
 use std::alloc::Global;
 use std::test::Fail;
 use test_support::opened;
@@ -78,10 +76,22 @@ fn the_flag_is_looked_at_before_the_expiry_and_the_sequence(rt: HostRuntime) {
         ..AFTER
     };
     let off = Standing { flag: false, ..on };
-    assert_eq!(rt; on_refused(alloc, &on, last, last), Some(SwitchStop::AlreadyOn));
-    assert_eq!(rt; on_refused(alloc, &off, last, 1), Some(SwitchStop::ExpiryRange));
-    assert_eq!(rt; on_refused(alloc, &off, last, 0), Some(SwitchStop::SequenceEnd));
-    assert_eq!(rt; on_refused(alloc, &off, 1, last - 1), Some(SwitchStop::SequenceEnd));
+    assert_eq!(rt;
+        on_refused(alloc, &on, last, last),
+        Some(SwitchStop::AlreadyOn)
+    );
+    assert_eq!(rt;
+        on_refused(alloc, &off, last, 1),
+        Some(SwitchStop::ExpiryRange)
+    );
+    assert_eq!(rt;
+        on_refused(alloc, &off, last, 0),
+        Some(SwitchStop::SequenceEnd)
+    );
+    assert_eq!(rt;
+        on_refused(alloc, &off, 1, last - 1),
+        Some(SwitchStop::SequenceEnd)
+    );
     assert_eq!(rt; off_refused(alloc, &off), Some(SwitchStop::AlreadyOff));
     assert_eq!(rt; off_refused(alloc, &on), Some(SwitchStop::SequenceEnd));
     assert_eq!(rt; on_refused(alloc, &FRESH, last - 7, 7), None);

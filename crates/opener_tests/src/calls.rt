@@ -74,8 +74,7 @@ pub(crate) fn first_end(
     meta: &[u8],
     fails: &[u64],
     call: Call,
-) -> Option<End>
-{
+) -> Option<End> {
     let mut seat = opened(alloc, body, meta, fails)?;
     let mut opener = opener_of(alloc, &seat)?;
     let end = ask(&mut opener, &mut seat, call);
@@ -83,15 +82,13 @@ pub(crate) fn first_end(
     Some(end)
 }
 
-pub(crate) fn get(alloc: Global) -> Result<Call, Memory>
-{
+pub(crate) fn get(alloc: Global) -> Result<Call, Memory> {
     Ok(Call::Get {
         key: Bytes::copy_of(alloc, b"k")?,
     })
 }
 
-pub(crate) fn put(alloc: Global, seconds: u32) -> Result<Call, Memory>
-{
+pub(crate) fn put(alloc: Global, seconds: u32) -> Result<Call, Memory> {
     Ok(Call::Put {
         key: Bytes::copy_of(alloc, b"k")?,
         value: Bytes::copy_of(alloc, b"\x01d")?,

@@ -58,15 +58,13 @@ pub(crate) fn stored(alloc: Global, fails: &[u64], count: u32) -> Option<World> 
     with_openers(alloc, world_over(alloc, &BODY, &META, fails)?, count)
 }
 
-pub(crate) fn get(alloc: Global) -> Result<Call, Memory>
-{
+pub(crate) fn get(alloc: Global) -> Result<Call, Memory> {
     Ok(Call::Get {
         key: Bytes::copy_of(alloc, b"k")?,
     })
 }
 
-pub(crate) fn put(alloc: Global, key: &[u8], value: &[u8]) -> Result<Call, Memory>
-{
+pub(crate) fn put(alloc: Global, key: &[u8], value: &[u8]) -> Result<Call, Memory> {
     Ok(Call::Put {
         key: Bytes::copy_of(alloc, key)?,
         value: Bytes::copy_of(alloc, value)?,
