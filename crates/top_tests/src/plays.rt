@@ -1,5 +1,8 @@
 // Scripts of one opener at a region in memory, as the program plays them.
-ghost use Rattle.std.specs.Prelude.{◌≡◌, [], All, IfOk};
+ghost use Rattle.std.specs.Prelude.{◌≡◌, [], All, IfOk, IfSome, replicate};
+ghost use Rattle.region_words.specs.Local.{no_account};
+ghost use Rattle.region_words.specs.Region.{IsAccepted};
+ghost use Rattle.world.specs.World.{IsSound};
 
 use crate::runs::{ran, shelf_with};
 use bstr::ByteSlice;
@@ -9,9 +12,12 @@ use meta_record::{
     WORD_CHECKSUM, WORD_LAST_CHECKSUM, WORD_LAST_SIZE, WORD_SEQUENCE, WORD_SIZE, WORD_VERSION,
     store_word,
 };
-use region_words::MemSource;
+use mmkv_top::play_on;
+use region_words::{LocalRegion, MemSource, shown};
 use std::alloc::{AllocError, Global};
+use std::mem;
 use std::test::Fail;
+use world::World;
 
 // What a first put into a fresh store leaves.
 const AFTER_A_PUT: &[u8] =
@@ -67,6 +73,41 @@ pub(crate) fn played_on(
 // The same on a fresh store.
 fn played(alloc: Global, script: &[u8]) -> Result<(u8, Vec<u8>), Memory> {
     played_on(alloc, Vec::new(alloc), b"", script, &[])
+}
+
+// A fresh region.
+fn fresh(alloc: Global) -> Option<LocalRegion>
+    ensures past { IfSome result (λ r. r.past ≡ []) }
+    ensures new { IfSome result (λ r. r.accounts ≡ replicate 65 no_account) }
+    ensures steady { IfSome result (λ r. r.failing.listed ≡ []) }
+    ensures accepted { IfSome result (λ r. IsAccepted r.start) }
+{
+    let region = LocalRegion::new(alloc, Vec::new(alloc), Vec::new(alloc)).ok()?;
+    shown(region.data_bytes(), region.meta_bytes()).ok()?;
+    Some(region)
+}
+
+// A world over it.
+fn fresh_world(alloc: Global, region: LocalRegion) -> World
+    requires past { region.past ≡ [] }
+    requires new { region.accounts ≡ replicate 65 no_account }
+    requires steady { region.failing.listed ≡ [] }
+    requires accepted { IsAccepted region.start }
+    ensures sound { IsSound result }
+    ensures unopened { result.openers ≡ [] }
+    ensures steady { result.region.failing.listed ≡ [] }
+{
+    World::new(alloc, region)
+}
+
+// The status of a script that is played on a fresh world, and its text behind what stood in the buffer.
+fn played_behind(alloc: Global, before: &[u8], script: &[u8], cut: bool) -> Option<(u8, Vec<u8>)> {
+    let mut world = fresh_world(alloc, fresh(alloc)?);
+    let mut stock = one_handler(alloc).ok()?;
+    let mut out = before.to_vec(alloc).ok()?;
+    let status = play_on(alloc, &mut world, script, cut, &mut stock, &mut out);
+    mem::drop(world);
+    Some((status.0, out))
 }
 
 // These pieces one after another.
@@ -272,5 +313,24 @@ fn a_put_that_would_pack_is_stopped_at_the_last_sequence(rt: HostRuntime) -> Res
         ),
         true
     );
+    Ok(())
+}
+
+#[test]
+fn a_script_on_a_lent_world_adds_its_text_to_the_buffer(rt: HostRuntime) -> Result<(), Fail> {
+    let alloc = rt.alloc();
+    let text = joined(alloc, &[b"before ", PUT_ANSWER, AFTER_A_PUT])?;
+    let (status, out) = played_behind(alloc, b"before ", PUT, false).expect(&rt, "ample memory");
+    assert_eq!(rt; status, 0);
+    assert!(rt; out == text);
+    let (status, out) = played_behind(alloc, b"", PUT, true).expect(&rt, "ample memory");
+    assert_eq!(rt; status, 9);
+    assert!(rt; out.as_slice() == b"script 4\n".as_slice());
+    let (status, out) = played_behind(alloc, b"before ", b"step 1 1\n", false).expect(
+        &rt,
+        "ample memory",
+    );
+    assert_eq!(rt; status, 9);
+    assert!(rt; out.as_slice() == b"before script 1\n".as_slice());
     Ok(())
 }
