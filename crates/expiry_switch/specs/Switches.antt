@@ -1,5 +1,5 @@
 -- The events of a switch of the expiry, from what is known of the image, and why it isn't made.
-use Rattle.std.specs.Prelude.{◌≡◌, ◌⊎◌, ℕ, ◌+◌, ◌^◌, Bool, true, false, Option, Some, None, unwrap_or, is_some, not, nat_lt, ◌==◌, if◌then◌else◌}
+use Rattle.std.specs.Prelude.{◌≡◌, ◌⊎◌, ℕ, ◌+◌, ◌^◌, Bool, true, false, Option, Some, None, unwrap_or, is_some, not, nat_lt, if◌then◌else◌}
 use Rattle.expiring_map.specs.Map.{Map}
 use Rattle.kv_pairs.specs.Mapped.{packed, packed_size}
 use Rattle.kv_pairs.specs.Fits.{FitsIn}

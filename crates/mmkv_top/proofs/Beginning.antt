@@ -1,56 +1,43 @@
 -- A line that begins a call, or names nothing.
-use Rattle.std.proofs.Common.{◌≡◌, ◌≢◌, ℕ, zero, suc, ◌+◌, ◌-◌, ◌<◌, ◌≤◌, ◌⊎◌, Bool, true, false, not, ◌||◌, eqb, List, [], ◌∷◌, ◌++◌, length, set, refl, sym, ap, ◌∙◌, inl, inr, arith, subst, append-nil, length-append, eq-eqb}
+use Rattle.std.proofs.Common.{◌≡◌, ◌≢◌, ℕ, zero, suc, ◌+◌, ◌-◌, ◌<◌, ◌≤◌, ◌⊎◌, Bool, true, false, not, eqb, List, [], ◌∷◌, ◌++◌, length, set, refl, sym, ap, ◌∙◌, inl, inr, arith, subst, append-nil, eq-eqb}
 use Rattle.std.proofs.lemmas.Bool.Decides.{eqb_tells, nat_tests}
 use Rattle.std.proofs.lemmas.List.{length-set}
-use Rattle.std.proofs.lemmas.List.Elements.{filter-append}
 use Rattle.std.specs.Prelude.{Option, Some, None, IfSome, IsTrue, flat_map, nat_le, option_map, slice_get, ◌&&◌, ◌==◌, if◌then◌else◌}
 use Rattle.std.proofs.lemmas.List.Elements.{All-nil}
 use Rattle.change_log.specs.declared.change.Change.{Change}
-use Rattle.change_log.specs.declared.call.Answer.{Answer}
 use Rattle.change_log.specs.declared.call.Call.{Call as Asked}
 use Rattle.change_log.specs.Settled.{AreEndedBy}
-use Rattle.handlers.specs.Stock.{Draws}
-use Rattle.lock_rules.specs.declared.table.LockKind.TheVariants.{Exclusive}
 use Rattle.handlers.specs.declared.handler.Strategy.{Strategy}
-use Rattle.handlers.specs.declared.handler.Strategy.TheVariants.{Discard, Recover, Leave}
 use Rattle.opener.specs.Begins.{Begins, call_refusal, refusal_at}
 use Rattle.opener.specs.Opener.{is_ended}
-use Rattle.opener.specs.Bound.{steps_left}
 use Rattle.opener.specs.State.{OpenerState}
-use Rattle.opener.specs.declared.calls.Stop.{Stop}
 use Rattle.opener.specs.declared.calls.Stop.TheVariants as stop
 use Rattle.opener.specs.declared.calls.Step.TheVariants as step
 use Rattle.opener.specs.declared.work.Work.{Work}
 use Rattle.opener.specs.declared.work.Work.TheVariants.{Idle, Ended, Runs}
-use Rattle.region_words.specs.Local.{Local, account_of, after_admission, kept_in, with_account}
-use Rattle.region_words.specs.Past.{changes_of, has_died, locks_after, region_after}
+use Rattle.region_words.specs.Local.{Local}
+use Rattle.region_words.specs.Past.{changes_of, has_died, region_after}
 use Rattle.region_words.specs.Region.{Region, file_size}
-use Rattle.region_words.specs.Share.{lock_of, most_events}
-use Rattle.region_words.specs.declared.account.Account.{Account}
+use Rattle.region_words.specs.Share.{most_events}
 use Rattle.region_words.specs.declared.event.Event.{Event}
-use Rattle.region_words.proofs.Accounts.{other_account}
 use Rattle.script_lang.specs.Texts.{outcome_line}
 use Rattle.script_lang.specs.declared.line.Line.{Line}
-use Rattle.script_lang.specs.declared.line.Line.TheVariants.{Begin, Open}
-use Rattle.world.specs.World.{IsSound, Lives, WorldState}
-use Rattle.world.specs.Moves.{Begun, BeginsCall, IsNotBegun, IsNotOpened, Opens, new_opener}
-use Rattle.world.specs.declared.stops.OpenStop.{OpenStop}
-use Rattle.world.specs.declared.stops.OpenStop.TheVariants as opening
+use Rattle.script_lang.specs.declared.line.Line.TheVariants.{Begin}
+use Rattle.world.specs.World.{IsSound, Lives}
+use Rattle.world.specs.Moves.{BeginsCall, IsNotBegun}
 use Rattle.world.specs.declared.stops.WorldStop.{WorldStop}
 use Rattle.world.specs.declared.stops.WorldStop.TheVariants as begin
-use Rattle.world.proofs.Numbered.{pushed_is, set_elsewhere, set_is}
-use Rattle.mmkv_top.specs.Halting.{of_begin, of_opening}
-use Rattle.mmkv_top.specs.State.{PlayState, play_state}
-use Rattle.mmkv_top.specs.declared.halt.Halt.{Halt}
-use Rattle.mmkv_top.specs.declared.halt.Halt.TheVariants as halt
+use Rattle.world.proofs.Numbered.{set_elsewhere, set_is}
+use Rattle.mmkv_top.specs.Halting.{of_begin}
+use Rattle.mmkv_top.specs.State.{PlayState}
 use Rattle.mmkv_top.specs.Parts.{going_on, Part, answers_in, asked_of, lives, opened_by, outcomes_of, past_of, running, Running, strategies}
-use Rattle.mmkv_top.specs.Play.{AreAnswered, CanTake, IsPlayableLine}
-use Rattle.mmkv_top.specs.Played.{IsPartOf, IsTooFull, MetNoPlace, Stock, drawn, is_same, places_after, stocked}
-use Rattle.mmkv_top.specs.Progress.{AreEarlier, FollowsWork, FoundIs, FoundSaw, HasHalted, HasMarked, HasStored, IsAt, IsBounded, IsNobody, IsOpenTo, IsOpened, IsUnfull, IsUnopened, StopSaw, Takes, TakesOne}
+use Rattle.mmkv_top.specs.Play.{AreAnswered, IsPlayableLine}
+use Rattle.mmkv_top.specs.Played.{IsPartOf, Stock, drawn, places_after, stocked}
+use Rattle.mmkv_top.specs.Progress.{AreEarlier, FollowsWork, HasHalted, HasMarked, HasStored, IsAt, IsBounded, IsNobody, IsOpenTo, IsOpened, IsUnopened, StopSaw, TakesOne}
 use Rattle.mmkv_top.proofs.Histories.{history_of}
-use Rattle.mmkv_top.proofs.Answering.{earlier_now, nothing_answered}
+use Rattle.mmkv_top.proofs.Answering.{earlier_now}
 use Rattle.mmkv_top.proofs.InTime.{begin_bounded, in_time}
-use Rattle.mmkv_top.proofs.NoPlaces.{no_place, opener_there, roomy}
+use Rattle.mmkv_top.proofs.NoPlaces.{opener_there, roomy}
 use Rattle.mmkv_top.proofs.Stepping.{follows_alive}
 use Rattle.mmkv_top.proofs.Others.{begin_asked, begin_other, opened_still, unopened_still}
 use Rattle.mmkv_top.proofs.Reasoning.{begin_found, begun_stopless, quiet_reasoned}

@@ -1,5 +1,5 @@
 -- What the steps of an opener make of a line.
-use Rattle.std.proofs.Common.{◌≡◌, ◌≢◌, ℕ, ◌+◌, ◌≤◌, Bool, true, false, cond, List, [], ◌∷◌, ◌++◌, length, refl, sym, ap, ◌∙◌, arith, subst, append-nil, eq-eqb, ne_eqb}
+use Rattle.std.proofs.Common.{◌≡◌, ℕ, ◌≤◌, Bool, true, false, List, [], ◌∷◌, ◌++◌, length, refl, sym, ap, ◌∙◌, subst, append-nil, eq-eqb}
 use Rattle.std.specs.Prelude.{Option, Some, None, flat_map, option_map, option_and_then, slice_get, ◌==◌, if◌then◌else◌, ⊤}
 use Rattle.change_log.specs.Settled.{AreEndedBy}
 use Rattle.change_log.specs.declared.call.Answer.{Answer}
@@ -12,7 +12,7 @@ use Rattle.opener.specs.declared.calls.Step.{Step}
 use Rattle.opener.specs.declared.calls.Step.TheVariants as step
 use Rattle.opener.specs.declared.calls.Stop.{Stop}
 use Rattle.opener.specs.declared.work.Work.{Work}
-use Rattle.opener.specs.declared.work.Work.TheVariants.{Idle, Ended, Runs}
+use Rattle.opener.specs.declared.work.Work.TheVariants.{Idle}
 use Rattle.region_words.specs.Region.{Region}
 use Rattle.region_words.specs.Past.{AreSteps, changes_of}
 use Rattle.region_words.specs.declared.event.Event.{Event}
@@ -26,7 +26,7 @@ use Rattle.mmkv_top.specs.Parts.{answers_in, held_after, listed, Running, steppe
 use Rattle.mmkv_top.specs.Play.{AreAnswered}
 use Rattle.mmkv_top.specs.Played.{IsOutcomeOf, IsStepLine}
 use Rattle.mmkv_top.specs.Progress.{AreEarlier, CameTo, FollowsWork, HasStored, IsOutcomeAt, IsTextOf}
-use Rattle.mmkv_top.proofs.Answering.{answered_later, answers_one, earlier_on, one_within, within_later}
+use Rattle.mmkv_top.proofs.Answering.{answered_later, answers_one, one_within, within_later}
 use Rattle.mmkv_top.proofs.Marking.{MarksLine}
 use Rattle.mmkv_top.proofs.Reasoning.{said_printed}
 use Rattle.mmkv_top.proofs.Storing.{stops_stored}

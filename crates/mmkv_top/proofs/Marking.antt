@@ -1,14 +1,11 @@
 -- What a call has marked, line by line, and that nobody marks anything under another's hold.
-use Rattle.std.proofs.Common.{◌≡◌, ◌≢◌, ℕ, ◌+◌, ◌<◌, ◌≤◌, ◌⊎◌, Bool, true, false, List, [], ◌∷◌, ◌++◌, length, refl, sym, ap, ◌∙◌, arith, subst, append-nil, length-append}
+use Rattle.std.proofs.Common.{◌≡◌, ◌≢◌, ℕ, ◌≤◌, List, [], ◌∷◌, ◌++◌, length, refl, sym, ap, ◌∙◌, arith, subst, append-nil, length-append}
 use Rattle.std.proofs.lemmas.List.Elements.{All-append, All-cons, All-nil}
 use Rattle.std.specs.Prelude.{All, Option, Some, None, option_and_then, option_map}
-use Rattle.std.specs.List.{AllByRecursion}
 use Rattle.change_log.specs.Settled.{AreBegun, AreOfCall}
 use Rattle.change_log.specs.declared.call.Call.{Call as Asked}
 use Rattle.change_log.specs.declared.change.Change.{Change}
-use Rattle.loader.specs.Loads.{Load}
 use Rattle.lock_rules.specs.Locks.{Locks}
-use Rattle.lock_rules.specs.declared.table.LockKind.{LockKind}
 use Rattle.lock_rules.specs.declared.table.LockKind.TheVariants.{Exclusive}
 use Rattle.opener.specs.Adds.{AddsTo, AreMade, AreMadeBy}
 use Rattle.opener.specs.Begins.{Begins, begun_at}
@@ -19,8 +16,6 @@ use Rattle.opener.specs.declared.calls.Step.TheVariants as step
 use Rattle.opener.specs.declared.calls.Stop.{Stop}
 use Rattle.opener.specs.declared.calls.Stop.TheVariants as stop
 use Rattle.opener.specs.declared.work.Running.{Running as Call}
-use Rattle.opener.specs.declared.work.Stage.{Stage}
-use Rattle.opener.specs.declared.work.Stage.TheVariants as stage
 use Rattle.opener.specs.declared.work.Work.{Work}
 use Rattle.opener.specs.declared.work.Work.TheVariants.{Ended, Idle, Runs}
 use Rattle.opener.proofs.Added.{made_first}
@@ -36,7 +31,6 @@ use Rattle.region_words.specs.declared.event.What.{What}
 use Rattle.region_words.specs.declared.event.What.TheVariants.{Store, Grow, Lock, Unlock, Died}
 use Rattle.region_words.proofs.ReadLaws.{changes_more}
 use Rattle.script_lang.specs.declared.outcome.Outcome.{Outcome}
-use Rattle.script_lang.specs.declared.outcome.Outcome.TheVariants.{Answered, Blocked, Stopped}
 use Rattle.script_lang.specs.declared.outcome.Reason.{Reason}
 use Rattle.mmkv_top.specs.Parts.{Running, going_on, stepped}
 use Rattle.mmkv_top.specs.Played.{AreMarks, reason_said}

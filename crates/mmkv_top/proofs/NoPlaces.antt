@@ -22,7 +22,7 @@ use Rattle.opener.specs.declared.work.Stage.TheVariants as stage
 use Rattle.opener.specs.declared.work.Work.{Work}
 use Rattle.opener.specs.declared.work.Work.TheVariants.{Ended, Idle, Runs}
 use Rattle.region_words.specs.Apart.{Apart}
-use Rattle.region_words.specs.Local.{Local, Seated, account_of, kept_after, reserved_in, seat_state}
+use Rattle.region_words.specs.Local.{Seated, account_of, kept_after, reserved_in, seat_state}
 use Rattle.region_words.specs.Past.{has_died, locks_after}
 use Rattle.region_words.specs.Region.{Region, IsAccepted}
 use Rattle.region_words.specs.Share.{Goes, IsFull, ShareState, lock_of, most_events, places_for, total, unlock_place, unmoved}

@@ -18,7 +18,6 @@ use Rattle.region_words.specs.Past.{has_died, locks_after}
 use Rattle.region_words.specs.Region.{Region}
 use Rattle.region_words.specs.Share.{lock_of, most_events}
 use Rattle.region_words.specs.declared.account.Account.{Account}
-use Rattle.region_words.specs.declared.event.Event.{Event}
 use Rattle.region_words.proofs.Accounts.{other_account}
 use Rattle.script_lang.specs.declared.line.Line.TheVariants.{Open}
 use Rattle.world.specs.World.{IsSound, WorldState, share_of}

@@ -1,6 +1,6 @@
 -- What an opener has in hand while a line is another's, or names nothing of it.
-use Rattle.std.proofs.Common.{◌≡◌, ◌≢◌, ℕ, ◌+◌, ◌≤◌, Bool, true, false, cond, List, [], ◌∷◌, ◌++◌, length, refl, sym, ap, ◌∙◌, arith, subst, append-nil, eq-eqb, ne_eqb}
-use Rattle.std.specs.Prelude.{Option, Some, None, filter, option_map, option_and_then, ◌==◌, if◌then◌else◌}
+use Rattle.std.proofs.Common.{◌≡◌, ◌≢◌, ℕ, cond, List, [], ◌∷◌, ◌++◌, refl, sym, ap, ◌∙◌, subst, append-nil, eq-eqb, ne_eqb}
+use Rattle.std.specs.Prelude.{Option, Some, None, option_map, option_and_then}
 use Rattle.change_log.specs.declared.call.Answer.{Answer}
 use Rattle.change_log.specs.declared.call.Call.{Call as Asked}
 use Rattle.opener.specs.Calls.{holds_after}

@@ -9,7 +9,7 @@ use Rattle.lock_rules.specs.declared.table.LockKind.{LockKind}
 use Rattle.lock_rules.specs.declared.table.LockKind.TheVariants.{Exclusive}
 use Rattle.opener.specs.Begins.{Begins, IsFirst, IsFirstPlain, begun_at}
 use Rattle.opener.specs.Calls.{is_write}
-use Rattle.opener.specs.Ends.{Notices, Reads, ReadsBy, lock_by}
+use Rattle.opener.specs.Ends.{Notices, ReadsBy, lock_by}
 use Rattle.opener.specs.Opener.{HasReason, HasStopped, IsAt, RunsOn, lock_in, stop_found}
 use Rattle.opener.specs.Plans.{refusal_of}
 use Rattle.opener.specs.State.{OpenerState}

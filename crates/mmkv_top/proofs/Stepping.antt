@@ -1,9 +1,8 @@
 -- A line goes on by one step of its opener.
-use Rattle.std.proofs.Common.{◌≡◌, ◌≢◌, ℕ, ◌+◌, ◌<◌, ◌≤◌, ◌⊎◌, eqb, Bool, true, false, List, [], ◌∷◌, ◌++◌, length, refl, sym, ap, ◌∙◌, inl, inr, arith, subst, append-nil, append_assoc, length-append, eq-eqb}
+use Rattle.std.proofs.Common.{◌≡◌, ◌≢◌, ℕ, ◌+◌, ◌<◌, ◌≤◌, ◌⊎◌, eqb, Bool, true, false, List, [], ◌∷◌, ◌++◌, length, refl, sym, ap, ◌∙◌, inl, inr, arith, subst, append_assoc, length-append, eq-eqb}
 use Rattle.std.proofs.lemmas.Bool.Decides.{eqb_tells}
 use Rattle.std.proofs.lemmas.List.{append_cancel_right, length-map}
 use Rattle.std.specs.Prelude.{⊤, Option, Some, None, IfSome, option_map, not, ◌||◌, ◌&&◌, ◌==◌}
-use Rattle.std.specs.List.{AllByRecursion}
 use Rattle.std.specs.Option.{option_map_or}
 use Rattle.change_log.specs.declared.call.Answer.{Answer}
 use Rattle.lock_rules.specs.Locks.{IsLeastAgainst}
@@ -11,7 +10,7 @@ use Rattle.opener.specs.Ends.{lock_by}
 use Rattle.opener.specs.Calls.{holds_after, kind_of}
 use Rattle.opener.specs.Adds.{AddsTo, Counts, IsRaised, IsRaisedIn, locks_taken, stores_in}
 use Rattle.opener.specs.Bound.{Falls, steps_left}
-use Rattle.opener.specs.Opener.{Tied, MakesOne, KeepsWork, KeepsCall, HasCause, HasStopped, OnAnswer, IsAnswer, IsAnswerOf, RunsOn, HasReason, IsAt, IsSeen, Owes, WorkIs, is_ended, is_storing, lock_in, stop_found}
+use Rattle.opener.specs.Opener.{Tied, MakesOne, KeepsWork, KeepsCall, HasCause, HasStopped, OnAnswer, IsAnswer, IsAnswerOf, RunsOn, HasReason, IsAt, IsSeen, Owes, WorkIs, is_ended, lock_in, stop_found}
 use Rattle.opener.specs.State.{OpenerState}
 use Rattle.opener.specs.Writes.{commits_of}
 use Rattle.opener.specs.declared.calls.Step.{Step}
@@ -30,7 +29,7 @@ use Rattle.region_words.specs.Region.{Region, IsAccepted, file_size}
 use Rattle.region_words.specs.Past.{AreSteps, NoneDies, changes_of, region_after, locks_after, has_died, is_death}
 use Rattle.region_words.specs.Local.{Seated, seat_state, account_of, lock_after}
 use Rattle.region_words.specs.Share.{ShareState, made_by}
-use Rattle.region_words.specs.Told.{History, OnTold}
+use Rattle.region_words.specs.Told.{History}
 use Rattle.region_words.specs.declared.event.Event.{Event}
 use Rattle.region_words.specs.declared.event.What.{What}
 use Rattle.world.specs.World.{IsSound, WorldState, share_of}

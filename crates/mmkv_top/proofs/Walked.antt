@@ -4,26 +4,22 @@ use Rattle.std.proofs.lemmas.Bool.Decides.{eqb_tells, nat_tests}
 use Rattle.std.proofs.lemmas.List.{length-set}
 use Rattle.std.proofs.lemmas.List.Concat.{flat_map-append}
 use Rattle.std.specs.Prelude.{All, Option, Some, None, IfErr, IsTrue, OnOk, Result, Ok, Err, flat_map, nat_le, option_map, slice_get, ◌&&◌, ◌==◌}
-use Rattle.std.specs.List.{AllByRecursion}
 use Rattle.change_log.specs.Settled.{AreEndedBy}
 use Rattle.handlers.specs.declared.handler.Strategy.{Strategy}
 use Rattle.opener.specs.Opener.{OnAnswer, IsAnswer}
 use Rattle.opener.specs.Settles.{answers_by}
 use Rattle.opener.specs.State.{OpenerState}
-use Rattle.opener.specs.declared.calls.Step.{Step}
 use Rattle.opener.specs.declared.calls.Step.TheVariants as step
 use Rattle.opener.specs.declared.calls.Stop.{Stop}
 use Rattle.opener.specs.declared.calls.Stop.TheVariants as stop
-use Rattle.opener.specs.declared.work.Work.{Work}
 use Rattle.region_words.specs.Lawful.{Lawful}
-use Rattle.region_words.specs.Past.{NoneDies, changes_of, has_died, is_death, region_after}
+use Rattle.region_words.specs.Past.{NoneDies, changes_of, has_died, region_after}
 use Rattle.region_words.specs.Region.{Region, file_size}
 use Rattle.region_words.specs.Share.{most_events}
 use Rattle.region_words.specs.declared.event.Event.{Event}
 use Rattle.script_lang.specs.Texts.{outcome_line}
 use Rattle.script_lang.specs.declared.line.Line.TheVariants.{Step as StepLine}
-use Rattle.script_lang.specs.declared.outcome.Outcome.{Outcome}
-use Rattle.world.specs.World.{IsSound, Lives, WorldState}
+use Rattle.world.specs.World.{IsSound, Lives}
 use Rattle.world.specs.Moves.{IsSaid}
 use Rattle.world.specs.declared.moves.Moved.{Moved}
 use Rattle.world.specs.declared.moves.Moved.TheVariants as moved
@@ -46,9 +42,8 @@ use Rattle.mmkv_top.specs.Play.{AreAnswered, CanTake}
 use Rattle.mmkv_top.specs.Played.{MetFullJournal, MetNoImage, Stock, drawn, places_after, stocked}
 use Rattle.mmkv_top.specs.Progress.{AreEarlier, CameTo, FollowsWork, FoundIs, FoundSaw, HaltsBy, HasHalted, HasMarked, HasStored, IsAt, IsNobody, IsOpenTo, IsOpened, IsTextOf, IsUnopened, IsUnsaid, LeavesFewer, MetFull, Notes, SawNoImage, StopSaw, StoppedFull, StoppedIs, StoppedSaw, Stepped, Takes, TakesOne, Walks, seat_at}
 use Rattle.mmkv_top.proofs.Histories.{history_of}
-use Rattle.mmkv_top.proofs.Answering.{earlier_on}
 use Rattle.mmkv_top.proofs.InTime.{in_time, line_bounded}
-use Rattle.mmkv_top.proofs.LineEnds.{EndsLine, LineEnds, Outcomes, answers_join, is_step_line, line_ends, listed_answers, outcome_is, own_outcome, said_stopped}
+use Rattle.mmkv_top.proofs.LineEnds.{LineEnds, Outcomes, answers_join, is_step_line, line_ends, listed_answers, outcome_is, own_outcome, said_stopped}
 use Rattle.mmkv_top.proofs.NoPlaces.{opener_there, roomy}
 use Rattle.mmkv_top.proofs.Others.{going_none, opened_other, running_own, unopened_other}
 use Rattle.mmkv_top.proofs.Reasoning.{is_reasoned}

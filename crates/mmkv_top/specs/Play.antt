@@ -17,7 +17,7 @@ use Rattle.script_lang.specs.Texts.{line, run_text}
 use Rattle.mmkv_top.specs.declared.limits.TheConstants.{LARGEST_COUNT, LARGEST_LINE}
 use Rattle.mmkv_top.specs.declared.ending.Ending.{Ending}
 use Rattle.mmkv_top.specs.Ending.{ending}
-use Rattle.mmkv_top.specs.Parts.{Part, lines_of, past_of, outcomes_of, answers_in, strategies, Running, running, asked_of}
+use Rattle.mmkv_top.specs.Parts.{Part, lines_of, past_of, outcomes_of, answers_in, Running, running, asked_of}
 use Rattle.mmkv_top.specs.Played.{Stock, MayCome, AreHeld, ArePlayed, AreReasoned, AreRoomy, MeetsFullJournal, MeetsNoImage}
 
 -- a line without its line feed

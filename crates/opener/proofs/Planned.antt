@@ -24,7 +24,6 @@ use Rattle.region_words.specs.Owing.{AreWithin}
 use Rattle.region_words.specs.declared.standing.Standing.{Standing}
 use Rattle.region_words.specs.declared.event.Side.TheVariants.{Meta}
 use Rattle.region_words.specs.declared.event.Mark.TheVariants.{Commit}
-use Rattle.region_words.specs.declared.event.What.{What}
 use Rattle.region_words.specs.declared.event.What.TheVariants.{Store, Grow}
 use Rattle.region_words.proofs.FitsAfter.{appended_fits, packed_fits, cleared_fits}
 use Rattle.region_words.proofs.OwedRows.{append_within, length-append_stores, length-write_back_stores}

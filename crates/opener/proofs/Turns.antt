@@ -1,19 +1,18 @@
 -- A switch of the expiry, on or off: what its row has, and what is true of its plan.
-use Rattle.std.proofs.Common.{◌≡◌, ◌≢◌, ℕ, ◌+◌, ◌*◌, ◌^◌, ◌<◌, ◌≤◌, Bool, true, false, cond, List, [], ◌∷◌, ◌++◌, length, refl, sym, ap, ◌∙◌, arith, subst, length-append}
-use Rattle.std.specs.Prelude.{Option, Some, None, IsSome, is_some, not, nat_lt, unwrap_or, ⊤}
+use Rattle.std.proofs.Common.{◌≡◌, ◌≢◌, ℕ, ◌+◌, ◌*◌, ◌^◌, ◌<◌, ◌≤◌, Bool, true, false, cond, List, [], ◌∷◌, ◌++◌, length, refl, sym, ap, ◌∙◌, arith, length-append}
+use Rattle.std.specs.Prelude.{Some, None, IsSome, is_some, not, nat_lt, unwrap_or}
 use Rattle.std.specs.FinMap as fin
 use Rattle.std.proofs.lemmas.Bool.Decides.{nat_tests}
 use Rattle.expiring_map.specs.Map.{Map}
 use Rattle.kv_pairs.specs.Mapped.{packed, packed_size, IsPackable}
-use Rattle.kv_pairs.specs.Growth.{IsFileSize, largest, rewrite_size}
-use Rattle.kv_pairs.specs.Fits.{FitsIn}
+use Rattle.kv_pairs.specs.Growth.{IsFileSize, rewrite_size}
 use Rattle.kv_pairs.proofs.PackedSizes.{size_by_entries}
 use Rattle.change_log.specs.Acts.{applied}
 use Rattle.change_log.specs.declared.change.Act.{Act}
 use Rattle.change_log.specs.declared.change.Act.TheVariants as act
 use Rattle.change_log.specs.declared.change.Change.{Change}
 use Rattle.meta_record.specs.declared.shown.Shown.TheVariants.{Whole}
-use Rattle.region_words.specs.Region.{Region, IsRegion, IsAccepted, record_of, flag, shown}
+use Rattle.region_words.specs.Region.{Region, IsRegion, IsAccepted, record_of, shown}
 use Rattle.region_words.specs.Past.{after_all}
 use Rattle.region_words.specs.Rows.{Row, AreBytes, MayBegin, events_of, standing, stores_from, store_meta, close_sizes, payload_stores, confirmed_by_header}
 use Rattle.region_words.specs.Rows as rows
@@ -23,7 +22,6 @@ use Rattle.region_words.specs.Owing.{AreWithin}
 use Rattle.region_words.specs.Standings.{standing_of, words_of}
 use Rattle.region_words.specs.declared.standing.Standing.{Standing}
 use Rattle.region_words.specs.declared.event.Mark.TheVariants.{Commit}
-use Rattle.region_words.specs.declared.event.What.{What}
 use Rattle.region_words.specs.declared.event.What.TheVariants.{Grow}
 use Rattle.region_words.proofs.ByStanding.{row_is}
 use Rattle.region_words.proofs.GrownFiles.{grown_roomy}
@@ -32,9 +30,8 @@ use Rattle.region_words.proofs.Rewritten.{switch_leaves}
 use Rattle.region_words.proofs.RowParts.{length-stores, length-words}
 use Rattle.loader.specs.declared.loaded.Image.{Image}
 use Rattle.expiry_switch.specs.Switches.{CanSwitch, flags_of, switching, switching_by, enable_refusal, disable_refusal, pack_refusal}
-use Rattle.expiry_switch.specs.declared.switching.SwitchStop.{SwitchStop}
 use Rattle.expiry_switch.specs.declared.switching.SwitchStop.TheVariants as switch
-use Rattle.loader.specs.PartialLoads.{IsSoundStanding, IsSoundImage}
+use Rattle.loader.specs.PartialLoads.{IsSoundImage}
 use Rattle.opener.specs.Writes.{HasStanding, StandsAlone, commits_of, image_after}
 use Rattle.opener.proofs.RowEvents.{not_nil, within_words, words_commit}
 
