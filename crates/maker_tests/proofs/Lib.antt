@@ -1,3 +1,4 @@
 pub mod AppendSample
 pub mod WriteBackSample
 pub mod SwitchSample
+pub mod LargePair

@@ -1,14 +1,15 @@
 // A switch of the expiry, event by event, alone and at a region in memory.
-ghost use Rattle.std.specs.Prelude.{◌≡◌, IfOk, IfSome, OnOk};
+ghost use Rattle.std.specs.Prelude.{◌≡◌, ◌≤◌, ◌^◌, IfOk, IfSome, OnOk, false};
 ghost use Rattle.std.specs.FinMap as fin;
-ghost use Rattle.kv_pairs.specs.Growth.{IsFileSize};
+ghost use Rattle.kv_pairs.specs.Fits.{FitsIn};
+ghost use Rattle.kv_pairs.specs.Growth.{IsFileSize, largest};
 ghost use Rattle.region_words.specs.Rows.{Row};
 ghost use Rattle.region_words.specs.Owing.{IsOwing};
 ghost use Rattle.region_words.specs.Local.{seat_state};
 ghost use Rattle.expiry_switch.specs.Switches.{enabling};
 
 use crate::seen::seen_in;
-use expiring_map::ExpiringMap;
+use expiring_map::{Bytes, ExpiringMap, Pair};
 use expiry_switch::{SwitchStop, start_disable, start_enable};
 use lock_rules::{LockKind, Tried};
 use region_words::{LocalRegion, LocalSeat, RowMaker, Share, ShareStop, Side, Standing, Stored};
@@ -96,6 +97,47 @@ fn the_flag_is_looked_at_before_the_expiry_and_the_sequence(rt: HostRuntime) {
     assert_eq!(rt; off_refused(alloc, &on), Some(SwitchStop::SequenceEnd));
     assert_eq!(rt; on_refused(alloc, &FRESH, last - 7, 7), None);
     assert_eq!(rt; off_refused(alloc, &AFTER), None);
+}
+
+// The key a with so many bytes, whose length takes four.
+fn one_pair(alloc: Global, size: usize) -> Result<ExpiringMap, Fail>
+    requires least { 2 ^ 21 ≤ size }
+    requires most { size ≤ 67108847 }
+    ensures { IfOk result (λ m. FitsIn false m largest) }
+{
+    let mut map = ExpiringMap::new(alloc);
+    map.put(Pair {
+        key: Bytes::copy_of(alloc, b"a")?,
+        value: Bytes::of_vec(vec![in alloc; 0u8; size]?),
+        expiry: 0,
+    })?;
+    Ok(map)
+}
+
+// Why the store of such a pair isn't switched on where the sequence is at its end.
+fn refused_at_the_end(alloc: Global, size: usize) -> Result<Option<SwitchStop>, Fail>
+    requires least { 2 ^ 21 ≤ size }
+    requires most { size ≤ 67108847 }
+{
+    let last = Standing {
+        sequence: u32::MAX,
+        ..FRESH
+    };
+    let map = one_pair(alloc, size)?;
+    Ok(start_enable(alloc, &last, map, 1, 100, 0).err())
+}
+
+// 2^26 is 67,108,864. The header, the four bytes of the payload, the key's two, the four of the value's length, and the four of its
+// expiry make 18 beside the value.
+#[test]
+fn a_full_store_is_named_before_the_end_of_the_sequence(rt: HostRuntime) -> Result<(), Fail> {
+    let full = SwitchStop::Full { need: 67_108_865 };
+    assert_eq!(rt; refused_at_the_end(rt.alloc(), 67_108_847)?, Some(full));
+    assert_eq!(rt;
+        refused_at_the_end(rt.alloc(), 67_108_846)?,
+        Some(SwitchStop::SequenceEnd)
+    );
+    Ok(())
 }
 
 // The switch of a fresh store whose lock opener 1 holds.

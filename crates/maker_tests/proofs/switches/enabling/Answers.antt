@@ -1,4 +1,4 @@
-use Rattle.std.proofs.Common.{sym, subst, ◌∙◌, ap}
+use Rattle.std.proofs.Common.{sym, subst}
 use Rattle.expiry_switch.specs.Switches.{CanSwitch}
 use Rattle.maker_tests.proofs.WriteBackSample.{known, page}
 use Rattle.maker_tests.proofs.SwitchSample.{can_switch}
