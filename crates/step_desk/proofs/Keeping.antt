@@ -11,10 +11,10 @@ use Rattle.region_words.specs.declared.event.Event.{Event}
 use Rattle.region_words.proofs.Later.{lock_others}
 use Rattle.step_desk.specs.declared.view.Stage.TheVariants.{Idle}
 use Rattle.step_desk.specs.declared.view.View.{View}
-use Rattle.step_desk.specs.Mirrors.{checksum_after, sequence_after, changes_made, mirror}
+use Rattle.step_desk.specs.Mirrors.{Words, changes_made, mirror}
 use Rattle.step_desk.specs.Numbers.{Among, Answers, GoesOn, numbers}
 use Rattle.step_desk.specs.Rule.{newcomer}
-use Rattle.step_desk.specs.Steps.{M, having_seen, Looked, LookedAtChecksum, LookedAtSequence, Settled, keeper, handed, joined, longer, shorter, numbers_of_shorter, Follows}
+use Rattle.step_desk.specs.Steps.{M, having_seen, Looked, LookedAt, Settled, keeper, handed, joined, longer, shorter, numbers_of_shorter, Follows}
 use Rattle.step_desk.specs.Passes.{IsKnown, PassIs}
 use Rattle.step_desk.proofs.Lists.{among_without, others_within, more_changes, by_lengths}
 use Rattle.step_desk.proofs.Passing.{numbers_answers}
@@ -37,22 +37,26 @@ looked_pass me new who made made' pass l is = subst (λ m. PassIs m who made') (
   known = known_later me.0 l.later pass.known l.others l.lawful;
 })
 
-module _ (me new : M) (found who made : ℕ) (pass : PassIs me who made) (l : LookedAtChecksum me found new) where
-  abbrev checksum : ℕ
-  checksum = checksum_after me.0.about.start l.shown_at
+-- what was found in a word that mirrors another
+module _ (word : Words) (me new : M) (found who made : ℕ) (pass : PassIs me who made) (l : LookedAt word me found new) where
+  abbrev shown : ℕ
+  shown = word me.0.about.start l.shown_at
 
-  turned : found ≡ changes_made l.shown_at * 4294967296 + checksum
-  turned = let n : ℕ = changes_made l.shown_at in let h : ℕ = checksum in let same : h + 4294967296 * n ≡ n * 4294967296 + h = omega arith in l.found_is ∙ same
+  turned : found ≡ changes_made l.shown_at * 4294967296 + shown
+  turned = let n : ℕ = changes_made l.shown_at in let h : ℕ = shown in let same : h + 4294967296 * n ≡ n * 4294967296 + h = omega arith in l.found_is ∙ same
 
   beside : found / 4294967296 ≡ changes_made l.shown_at
-  beside = ap (λ k. k / 4294967296) turned ∙ div-mul-add (changes_made l.shown_at) 4294967296 checksum l.fits
+  beside = ap (λ k. k / 4294967296) turned ∙ div-mul-add (changes_made l.shown_at) 4294967296 shown l.fits
 
-  -- the number beside the checksum, or the number that was seen
-  pub number_is : max made (found / 4294967296) ≡ changes_made (l.looked.later ++ me.0.seen)
+  -- the number beside the word, or the number that was seen
+  number_is : max made (found / 4294967296) ≡ changes_made (l.looked.later ++ me.0.seen)
   number_is = let b = beside in let m = pass.made_is in let most = l.most in omega (arith, b, m, most)
 
-  pub checksum_is : found % 4294967296 ≡ checksum_after me.0.about.start new.0.seen
-  checksum_is = ap (λ k. k % 4294967296) turned ∙ mod-mul-add (changes_made l.shown_at) 4294967296 checksum l.fits ∙ sym l.checksum ∙ ap (λ (m : M). checksum_after me.0.about.start m.0.seen) (sym l.looked.view)
+  pub peeked_pass : PassIs new who (max made (found / 4294967296))
+  peeked_pass = looked_pass me new who made (max made (found / 4294967296)) pass l.looked number_is
+
+  pub word_is : found % 4294967296 ≡ word me.0.about.start new.0.seen
+  word_is = ap (λ k. k % 4294967296) turned ∙ mod-mul-add (changes_made l.shown_at) 4294967296 shown l.fits ∙ sym l.same ∙ ap (λ (m : M). word me.0.about.start m.0.seen) (sym l.looked.view)
 
 -- a pass that has handed a number out, and the pass of that number
 pub kept_pass : (me new : M) (who made n : ℕ) → PassIs me who made → new ≡ (keeper me.0 n, me.1) → PassIs new who made

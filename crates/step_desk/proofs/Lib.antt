@@ -5,3 +5,7 @@ pub mod Passing
 pub mod Turning
 pub mod Keeping
 pub mod Closing
+pub mod Carrying
+pub mod Called
+pub mod Sharing
+pub mod Peeking

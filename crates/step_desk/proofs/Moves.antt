@@ -17,9 +17,9 @@ use Rattle.region_words.specs.declared.event.What.{What}
 use Rattle.step_desk.specs.declared.view.Stage.{Stage}
 use Rattle.step_desk.specs.declared.view.Stage.TheVariants.{Idle, Holding, Counted}
 use Rattle.step_desk.specs.declared.view.View.{View}
-use Rattle.step_desk.specs.Mirrors.{checksum_after, sequence_after, changes_made, mirror, Quiet}
+use Rattle.step_desk.specs.Mirrors.{Words, checksum_after, sequence_after, changes_made, mirror, Quiet}
 use Rattle.step_desk.specs.Rule.{room_in, Continues, StageIs, IsFresh, LiveIs, Views, Mirrored, TableIs}
-use Rattle.step_desk.specs.Steps.{M, seeing, having_seen, idle, IsReady, Took, Carries, CanCount, OthersStand, takes_turn, seeing_slot, shows, counts, gives_turn, Looked, peeks_at_checksum, peeks_at_sequence, settles}
+use Rattle.step_desk.specs.Steps.{M, seeing, having_seen, idle, IsReady, LookedAt, Took, Carries, CanCount, OthersStand, takes_turn, seeing_slot, shows, counts, gives_turn, Looked, peeks_at_checksum, peeks_at_sequence, settles}
 use Rattle.step_desk.proofs.Lists.{none_append, none_made, none_first, none_second, lawful_before, more_changes, cut, by_lengths}
 use Rattle.step_desk.proofs.Views.{at_stage, views_set, other_live}
 
@@ -85,7 +85,8 @@ takes_allowed about seats n id who me ready s r len at small =
             free = λ gone. absurd (omega (arith, gone, one));
             continues = r.continues;
             beyond = r.beyond;
-            mirrored = r.mirrored;
+            of_checksum = r.of_checksum;
+            of_sequence = r.of_sequence;
           },
           (
             (λ _. (r.now, record { view = ap (λ (c : List (ℕ × Option Local)). (w, (0, Some r.now) ∷ c)) ready.slots; continues = subst (λ a. Continues a r.now) (sym l.about_is) r.continues; later = l.later; past = l.past; others = l.others me.0.who (inl refl); places = l.places; room = l.room })),
@@ -111,7 +112,8 @@ takes_allowed about seats n id who me ready s r len at small =
         free = r.free;
         continues = r.continues;
         beyond = r.beyond;
-        mirrored = r.mirrored;
+        of_checksum = r.of_checksum;
+        of_sequence = r.of_sequence;
       },
       ((λ none_found. absurd (held none_found)), (λ _. refl)),
     )
@@ -169,34 +171,53 @@ module _ (about : Local) (seats : ℕ) (s : State (Option Local) View) (r : Tabl
   seen_start : x.start ≡ about.start
   seen_start = continued.start
 
-  quiet_before : checksum_after x.start x.past ≡ checksum_after x.start me.0.seen → checksum_after about.start (made_by me.0.who own ++ r.now.past) ≡ checksum_after about.start r.now.past
-  quiet_before same = (λ i. checksum_after (sym seen_start i) (sym grown i)) ∙ same ∙ (λ i. checksum_after (seen_start i) (sym held.2 i))
+  same_before : (word : Words) → word x.start x.past ≡ word x.start me.0.seen → word about.start (made_by me.0.who own ++ r.now.past) ≡ word about.start r.now.past
+  same_before word same = (λ i. word (sym seen_start i) (sym grown i)) ∙ same ∙ (λ i. word (seen_start i) (sym held.2 i))
 
-  still_before : sequence_after x.start x.past ≡ sequence_after x.start me.0.seen → sequence_after about.start r.now.past ≡ sequence_after about.start x.past
-  still_before same = (λ i. sequence_after (sym seen_start i) (held.2 i)) ∙ sym same ∙ ap (λ start. sequence_after start x.past) seen_start
+pub quiet_now : (word : Words) (start : Region) (since shown_at : List Event) → Quiet word start since shown_at → word start (since ++ shown_at) ≡ word start shown_at
+quiet_now word start [] shown_at quiet = refl
+quiet_now word start (e ∷ since) shown_at quiet = quiet.1
 
-pub quiet_now : (start : Region) (since shown_at : List Event) → Quiet start since shown_at → checksum_after start (since ++ shown_at) ≡ checksum_after start shown_at
-quiet_now start [] shown_at quiet = refl
-quiet_now start (e ∷ since) shown_at quiet = quiet.1
+quiet_more : (word : Words) (start : Region) (who : ℕ) (own : List What) (since shown_at : List Event) → length own ≤ 1 → Quiet word start since shown_at →
+    word start (made_by who own ++ (since ++ shown_at)) ≡ word start (since ++ shown_at) → Quiet word start (made_by who own ++ since) shown_at
+quiet_more word start who [] since shown_at one quiet same = quiet
+quiet_more word start who (what ∷ []) since shown_at one quiet same = (quiet, same ∙ quiet_now word start since shown_at quiet)
+quiet_more word start who (what ∷ again ∷ own) since shown_at one quiet same = absurd (omega (arith, one))
 
-quiet_more : (start : Region) (who : ℕ) (own : List What) (since shown_at : List Event) → length own ≤ 1 → Quiet start since shown_at →
-    checksum_after start (made_by who own ++ (since ++ shown_at)) ≡ checksum_after start (since ++ shown_at) → Quiet start (made_by who own ++ since) shown_at
-quiet_more start who [] since shown_at one quiet same = quiet
-quiet_more start who (what ∷ []) since shown_at one quiet same = (quiet, same ∙ quiet_now start since shown_at quiet)
-quiet_more start who (what ∷ again ∷ own) since shown_at one quiet same = absurd (omega (arith, one))
+quiet_front : (word : Words) (start : Region) (later since shown_at : List Event) → Quiet word start (later ++ since) shown_at → Quiet word start since shown_at
+quiet_front word start [] since shown_at quiet = quiet
+quiet_front word start (e ∷ later) since shown_at quiet = quiet_front word start later since shown_at quiet.0
 
-quiet_front : (start : Region) (later since shown_at : List Event) → Quiet start (later ++ since) shown_at → Quiet start since shown_at
-quiet_front start [] since shown_at quiet = quiet
-quiet_front start (e ∷ later) since shown_at quiet = quiet_front start later since shown_at quiet.0
+-- what a word shows goes on to be shown
+mirrored_on : (word : Words) (start : Region) (past past' : List Event) (shown who : ℕ) (own : List What) → Mirrored word start past shown → length own ≤ 1 → past' ≡ made_by who own ++ past →
+    word start (made_by who own ++ past) ≡ word start past → Mirrored word start past' shown
+mirrored_on word start past past' shown who own m one grown same = record {
+  shown_at = m.shown_at;
+  since = made_by who own ++ m.since;
+  past_is = grown ∙ ap (λ past. made_by who own ++ past) m.past_is ∙ sym (append_assoc (made_by who own) m.since m.shown_at);
+  shown_is = m.shown_is;
+  quiet = quiet_more word start who own m.since m.shown_at one m.quiet (subst (λ past. word start (made_by who own ++ past) ≡ word start past) m.past_is same);
+  fits = m.fits;
+}
+
+-- a word that is stored shows the journal as it is
+mirrored_now : (word : Words) (start start' : Region) (past : List Event) (shown : ℕ) → start ≡ start' → shown ≡ mirror word start past → word start past < 2 ^ 32 → Mirrored word start' past shown
+mirrored_now word start start' past shown same is fits = record {
+  shown_at = past;
+  since = [];
+  past_is = refl;
+  shown_is = is ∙ ap (λ start. mirror word start past) same;
+  quiet = tt;
+  fits = subst (λ start. word start past < 2 ^ 32) same fits;
+}
 
 shown_by : (me : M) (stage : Stage) (x : Local) → me.1 ≡ (0, Some x) ∷ [] → ◌≡◌ {A = M} (seeing me.0 stage x, me.1) (seeing_slot me.0 stage me.1, me.1)
 shown_by me stage x slots = ap (λ (c : List (ℕ × Option Local)). let m : M = (seeing_slot me.0 stage c, me.1) in m) (sym slots)
 
--- store the checksum, with the number of changes: the step of an event that changes it
-pub shows_checksum : (about : Local) (seats n id m : ℕ) (me : M) (own : List What) (x : Local) → Carries Holding (Some x) own me x → m ≡ mirror x.start x.past →
+-- store the checksum with the number of changes: the step of an event that changes the checksum
+pub shows_checksum : (about : Local) (seats n id m : ℕ) (me : M) (own : List What) (x : Local) → Carries Holding (Some x) own me x → m ≡ mirror checksum_after x.start x.past →
     checksum_after x.start x.past < 2 ^ 32 → sequence_after x.start x.past ≡ sequence_after x.start me.0.seen → Allows (TableIs about seats) n id me 2 (λ _. m) (λ _. shows (step n 2 m 0 none) me m)
-shows_checksum about seats n id m me own x h is fits still s r len at small =
-    let start = seen_start about seats s r id me own x h at in
+shows_checksum about seats n id m me own x h is fits same s r len at small =
     let held' = held about seats s r id me own x h at in (
       seeing me.0 Holding x,
       keeps,
@@ -214,40 +235,16 @@ shows_checksum about seats n id m me own x h is fits still s r len at small =
         free = λ free. not_free about seats s r id me own x h at free;
         continues = continued about seats s r id me own x h at;
         beyond = beyond_all about seats s r id me own x h at;
-        mirrored = record {
-          shown_at = x.past;
-          since = [];
-          past = refl;
-          shown_is = is ∙ ap (λ start. mirror start x.past) start;
-          quiet = tt;
-          fits = subst (λ start. checksum_after start x.past < 2 ^ 32) start fits;
-          sequence_is = r.mirrored.sequence_is ∙ still_before about seats s r id me own x h at still;
-          sequence_fits = r.mirrored.sequence_fits;
-        };
+        of_checksum = mirrored_now checksum_after x.start about.start x.past m (seen_start about seats s r id me own x h at) is fits;
+        of_sequence = mirrored_on sequence_after about.start r.now.past x.past r.sequence me.0.who own r.of_sequence h.one (grown about seats s r id me own x h at) (same_before about seats s r id me own x h at sequence_after same);
       },
       shown_by me Holding x h.slots,
     )
 
--- what word 2 shows goes on to be shown
-mirrored_on : (about now : Local) (shown sequence sequence' who : ℕ) (own : List What) (x : Local) → Mirrored about now shown sequence → length own ≤ 1 → x.past ≡ made_by who own ++ now.past →
-    checksum_after about.start (made_by who own ++ now.past) ≡ checksum_after about.start now.past → sequence' ≡ sequence_after about.start x.past → sequence' < 2 ^ 32 → Mirrored about x shown sequence'
-mirrored_on about now shown sequence sequence' who own x m one grown same is fits =
-    let now_is : now.past ≡ m.since ++ m.shown_at = m.past in record {
-      shown_at = m.shown_at;
-      since = made_by who own ++ m.since;
-      past = grown ∙ ap (λ past. made_by who own ++ past) now_is ∙ sym (append_assoc (made_by who own) m.since m.shown_at);
-      shown_is = m.shown_is;
-      quiet = quiet_more about.start who own m.since m.shown_at one m.quiet (subst (λ past. checksum_after about.start (made_by who own ++ past) ≡ checksum_after about.start past) now_is same);
-      fits = m.fits;
-      sequence_is = is;
-      sequence_fits = fits;
-    }
-
--- store the sequence: the step of an event that changes it
-pub shows_sequence : (about : Local) (seats n id m : ℕ) (me : M) (own : List What) (x : Local) → Carries Holding (Some x) own me x → m ≡ sequence_after x.start x.past → m < 2 ^ 32 →
-    checksum_after x.start x.past ≡ checksum_after x.start me.0.seen → Allows (TableIs about seats) n id me 3 (λ _. m) (λ _. shows (step n 3 m 0 none) me m)
+-- store the sequence with the number of changes: the step of an event that changes the sequence
+pub shows_sequence : (about : Local) (seats n id m : ℕ) (me : M) (own : List What) (x : Local) → Carries Holding (Some x) own me x → m ≡ mirror sequence_after x.start x.past →
+    sequence_after x.start x.past < 2 ^ 32 → checksum_after x.start x.past ≡ checksum_after x.start me.0.seen → Allows (TableIs about seats) n id me 3 (λ _. m) (λ _. shows (step n 3 m 0 none) me m)
 shows_sequence about seats n id m me own x h is fits same s r len at small =
-    let start = seen_start about seats s r id me own x h at in
     let held' = held about seats s r id me own x h at in (
       seeing me.0 Holding x,
       keeps,
@@ -265,8 +262,8 @@ shows_sequence about seats n id m me own x h is fits same s r len at small =
         free = λ free. not_free about seats s r id me own x h at free;
         continues = continued about seats s r id me own x h at;
         beyond = beyond_all about seats s r id me own x h at;
-        mirrored = mirrored_on about r.now r.shown r.sequence m me.0.who own x r.mirrored h.one (grown about seats s r id me own x h at) (quiet_before about seats s r id me own x h at same)
-            (is ∙ ap (λ start. sequence_after start x.past) start) fits;
+        of_checksum = mirrored_on checksum_after about.start r.now.past x.past r.shown me.0.who own r.of_checksum h.one (grown about seats s r id me own x h at) (same_before about seats s r id me own x h at checksum_after same);
+        of_sequence = mirrored_now sequence_after x.start about.start x.past m (seen_start about seats s r id me own x h at) is fits;
       },
       shown_by me Holding x h.slots,
     )
@@ -292,8 +289,8 @@ counts_allowed about seats n id c me own x can s r len at small =
         free = λ free. not_free about seats s r id me own x h at free;
         continues = continued about seats s r id me own x h at;
         beyond = beyond_all about seats s r id me own x h at;
-        mirrored = mirrored_on about r.now r.shown r.sequence r.sequence me.0.who own x r.mirrored h.one (grown about seats s r id me own x h at) (quiet_before about seats s r id me own x h at can.checksum)
-            (r.mirrored.sequence_is ∙ still_before about seats s r id me own x h at can.sequence) r.mirrored.sequence_fits;
+        of_checksum = mirrored_on checksum_after about.start r.now.past x.past r.shown me.0.who own r.of_checksum h.one (grown about seats s r id me own x h at) (same_before about seats s r id me own x h at checksum_after can.checksum);
+        of_sequence = mirrored_on sequence_after about.start r.now.past x.past r.sequence me.0.who own r.of_sequence h.one (grown about seats s r id me own x h at) (same_before about seats s r id me own x h at sequence_after can.sequence);
       },
       shown_by me Counted x h.slots,
     )
@@ -340,7 +337,8 @@ gives_allowed about seats n id me x one h same s r len at small =
         free = λ _. (ap (put_back s.homes) h.slots ∙ one_home s.homes (some (Some x)) (len ∙ one) ∙ ap (λ y. some (Some y) ∷ []) (same ∙ sym held.1), held.3);
         continues = r.continues;
         beyond = r.beyond;
-        mirrored = r.mirrored;
+        of_checksum = r.of_checksum;
+        of_sequence = r.of_sequence;
       },
       ap (λ (c : List (ℕ × Option Local)). (w, rest c)) h.slots,
     )
@@ -376,17 +374,17 @@ module _ (about : Local) (seats : ℕ) (s : State (Option Local) View) (r : Tabl
     lawful = lawful_before me.0.about.start rest (more ++ me.0.seen) (subst (λ p. Lawful me.0.about.start p) past (subst (λ (a : Local). Lawful a.start r.now.past) (sym looker.about_is) r.continues.lawful));
   }
 
--- the longer of what word 2 is of and of what was seen
-record Longest (start : Region) (past since shown_at later seen : List Event) : Type 0 where
+-- the longer of what a word mirrors and of what was seen
+record Longest (word : Words) (start : Region) (past shown_at later seen : List Event) : Type 0 where
   pub rest : List Event
   pub more : List Event
   pub past_is : past ≡ rest ++ (more ++ seen)
   pub later_is : later ≡ rest ++ more
-  pub same : checksum_after start (more ++ seen) ≡ checksum_after start shown_at
+  pub same : word start (more ++ seen) ≡ word start shown_at
   pub most : max (changes_made shown_at) (changes_made seen) ≡ changes_made (more ++ seen)
 
-longest : (start : Region) (past since shown_at later seen : List Event) → past ≡ since ++ shown_at → past ≡ later ++ seen → Quiet start since shown_at → Longest start past since shown_at later seen
-longest start past since shown_at later seen shown_past past_is quiet = by_lengths seen shown_at (λ _. Longest start past since shown_at later seen)
+longest : (word : Words) (start : Region) (past since shown_at later seen : List Event) → past ≡ since ++ shown_at → past ≡ later ++ seen → Quiet word start since shown_at → Longest word start past shown_at later seen
+longest word start past since shown_at later seen shown_past past_is quiet = by_lengths seen shown_at (λ _. Longest word start past shown_at later seen)
     (λ less.
     let c = cut later seen since shown_at (sym past_is ∙ shown_past) less in
     record {
@@ -394,7 +392,7 @@ longest start past since shown_at later seen shown_past past_is quiet = by_lengt
       more = c.0;
       past_is = shown_past ∙ ap (λ l. since ++ l) c.2;
       later_is = c.1;
-      same = ap (checksum_after start) (sym c.2);
+      same = ap (word start) (sym c.2);
       most = let n = more_changes c.0 seen in let e = ap changes_made c.2 in omega (arith, n, e);
     })
     (λ less.
@@ -404,76 +402,85 @@ longest start past since shown_at later seen shown_past past_is quiet = by_lengt
       more = [];
       past_is = past_is;
       later_is = sym (append-nil later);
-      same = ap (checksum_after start) c.2 ∙ quiet_now start c.0 shown_at (quiet_front start later c.0 shown_at (subst (λ l. Quiet start l shown_at) c.1 quiet));
+      same = ap (word start) c.2 ∙ quiet_now word start c.0 shown_at (quiet_front word start later c.0 shown_at (subst (λ l. Quiet word start l shown_at) c.1 quiet));
       most = let n = more_changes c.0 shown_at in let e = ap changes_made c.2 in omega (arith, n, e);
     })
 
+-- what is found by a load of a word that mirrors another
+module _ (about : Local) (seats : ℕ) (s : State (Option Local) View) (r : TableIs about seats s) (id who : ℕ) (me : M) (ready : IsReady who me) (at : get_elem? s.views id ≡ some me.0) (word : Words) (shown : ℕ) (m : Mirrored word about.start r.now.past shown) where
+  found_at : Longest word about.start r.now.past m.shown_at (looker about seats s r id who me ready at).later me.0.seen
+  found_at = longest word about.start r.now.past m.since m.shown_at (looker about seats s r id who me ready at).later me.0.seen m.past_is (looker about seats s r id who me ready at).past m.quiet
+
+  new_view : View
+  new_view = having_seen me.0 (found_at.more ++ me.0.seen)
+
+  new_views : Views about seats r.now r.turn r.count r.owner (set s.views id new_view)
+  unfolding new_view
+  new_views = looked_views about seats s r id who me ready at found_at.rest found_at.more found_at.past_is found_at.later_is
+
+  from : about.start ≡ me.0.about.start
+  from = ap (λ (a : Local). a.start) (sym (looker about seats s r id who me ready at).about_is)
+
+  looks_at : (found : ℕ) → found ≡ shown → LookedAt word me found (new_view, me.1)
+  unfolding new_view
+  looks_at found is = record {
+    looked = looked about seats s r id who me ready at found_at.rest found_at.more found_at.past_is found_at.later_is;
+    shown_at = m.shown_at;
+    found_is = is ∙ m.shown_is ∙ ap (λ start. mirror word start m.shown_at) from;
+    fits = subst (λ start. word start m.shown_at < 2 ^ 32) from m.fits;
+    same = subst (λ start. word start (found_at.more ++ me.0.seen) ≡ word start m.shown_at) from found_at.same;
+    most = found_at.most;
+  }
+
 -- one load of word 2
 pub peeks_checksum : (about : Local) (seats n id who : ℕ) (me : M) → IsReady who me → Allows (TableIs about seats) n id me 2 (λ k. k) (peeks_at_checksum (step n 2 0 0 none) me)
-peeks_checksum about seats n id who me ready s r len at small =
-    let l = looker about seats s r id who me ready at in
-    let m = r.mirrored in
-    let x = longest about.start r.now.past m.since m.shown_at l.later me.0.seen m.past l.past m.quiet in
-    let from : about.start ≡ me.0.about.start = ap (λ (a : Local). a.start) (sym l.about_is) in (
-      having_seen me.0 (x.more ++ me.0.seen),
-      keeps,
-      tt,
-      record {
-        now = r.now;
-        owner = r.owner;
-        count = r.count;
-        turn = r.turn;
-        shown = r.shown;
-        sequence = r.sequence;
-        words = ap (λ ws. set ws 2 (get_or ws 2 0)) r.words;
-        few = r.few;
-        each = looked_views about seats s r id who me ready at x.rest x.more x.past_is x.later_is;
-        free = r.free;
-        continues = r.continues;
-        beyond = r.beyond;
-        mirrored = r.mirrored;
-      },
-      record {
-        looked = looked about seats s r id who me ready at x.rest x.more x.past_is x.later_is;
-        shown_at = m.shown_at;
-        found_is = ap (λ ws. get_or ws 2 0) r.words ∙ m.shown_is ∙ ap (λ start. mirror start m.shown_at) from;
-        fits = subst (λ start. checksum_after start m.shown_at < 2 ^ 32) from m.fits;
-        checksum = subst (λ start. checksum_after start (x.more ++ me.0.seen) ≡ checksum_after start m.shown_at) from x.same;
-        most = x.most;
-      },
-    )
+peeks_checksum about seats n id who me ready s r len at small = (
+  new_view about seats s r id who me ready at checksum_after r.shown r.of_checksum,
+  keeps,
+  tt,
+  record {
+    now = r.now;
+    owner = r.owner;
+    count = r.count;
+    turn = r.turn;
+    shown = r.shown;
+    sequence = r.sequence;
+    words = ap (λ ws. set ws 2 (get_or ws 2 0)) r.words;
+    few = r.few;
+    each = new_views about seats s r id who me ready at checksum_after r.shown r.of_checksum;
+    free = r.free;
+    continues = r.continues;
+    beyond = r.beyond;
+    of_checksum = r.of_checksum;
+    of_sequence = r.of_sequence;
+  },
+  looks_at about seats s r id who me ready at checksum_after r.shown r.of_checksum (get_or s.words 2 0) (ap (λ ws. get_or ws 2 0) r.words),
+)
 
 -- one load of word 3
 pub peeks_sequence : (about : Local) (seats n id who : ℕ) (me : M) → IsReady who me → Allows (TableIs about seats) n id me 3 (λ k. k) (peeks_at_sequence (step n 3 0 0 none) me)
-peeks_sequence about seats n id who me ready s r len at small =
-    let l = looker about seats s r id who me ready at in
-    let m = r.mirrored in
-    let from : about.start ≡ me.0.about.start = ap (λ (a : Local). a.start) (sym l.about_is) in
-    let found_is : get_or s.words 3 0 ≡ r.sequence = ap (λ ws. get_or ws 3 0) r.words in (
-      having_seen me.0 (l.later ++ me.0.seen),
-      keeps,
-      tt,
-      record {
-        now = r.now;
-        owner = r.owner;
-        count = r.count;
-        turn = r.turn;
-        shown = r.shown;
-        sequence = r.sequence;
-        words = ap (λ ws. set ws 3 (get_or ws 3 0)) r.words;
-        few = r.few;
-        each = looked_views about seats s r id who me ready at [] l.later l.past refl;
-        free = r.free;
-        continues = r.continues;
-        beyond = r.beyond;
-        mirrored = r.mirrored;
-      },
-      record {
-        looked = looked about seats s r id who me ready at [] l.later l.past refl;
-        found_is = found_is ∙ m.sequence_is ∙ (λ i. sequence_after (from i) (l.past i));
-        fits = subst (λ k. k < 2 ^ 32) (sym found_is) m.sequence_fits;
-      },
-    )
+peeks_sequence about seats n id who me ready s r len at small = (
+  new_view about seats s r id who me ready at sequence_after r.sequence r.of_sequence,
+  keeps,
+  tt,
+  record {
+    now = r.now;
+    owner = r.owner;
+    count = r.count;
+    turn = r.turn;
+    shown = r.shown;
+    sequence = r.sequence;
+    words = ap (λ ws. set ws 3 (get_or ws 3 0)) r.words;
+    few = r.few;
+    each = new_views about seats s r id who me ready at sequence_after r.sequence r.of_sequence;
+    free = r.free;
+    continues = r.continues;
+    beyond = r.beyond;
+    of_checksum = r.of_checksum;
+    of_sequence = r.of_sequence;
+  },
+  looks_at about seats s r id who me ready at sequence_after r.sequence r.of_sequence (get_or s.words 3 0) (ap (λ ws. get_or ws 3 0) r.words),
+)
 
 -- one load of word 0, by which a pass looks at what it knows
 pub settles_allowed : (about : Local) (seats n id : ℕ) (me : M) → me.0.live ≡ true → Allows (TableIs about seats) n id me 0 (λ k. k) (settles (step n 0 0 0 none) me)
@@ -495,7 +502,8 @@ settles_allowed about seats n id me live s r len at small =
         free = r.free;
         continues = r.continues;
         beyond = r.beyond;
-        mirrored = r.mirrored;
+        of_checksum = r.of_checksum;
+        of_sequence = r.of_sequence;
       },
       (
         refl,

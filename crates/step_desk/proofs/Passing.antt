@@ -125,7 +125,8 @@ splits_allowed about seats id v w live idle may s r at =
       free = r.free;
       continues = r.continues;
       beyond = r.beyond;
-      mirrored = r.mirrored;
+      of_checksum = r.of_checksum;
+      of_sequence = r.of_sequence;
     }
 
 answers_numbers : (v : View) (n : ℕ) → Among n (numbers v) → Answers v n
@@ -243,7 +244,8 @@ joins_allowed about seats id v other w live idle live' idle' s r at apart there 
       free = r.free;
       continues = r.continues;
       beyond = r.beyond;
-      mirrored = r.mirrored;
+      of_checksum = r.of_checksum;
+      of_sequence = r.of_sequence;
     }
   where
     dead : false ≡ true → ⊥
@@ -268,8 +270,8 @@ unkept about is gone n =
     none_over kept u p = omega (arith, p)
 
 -- a desk begins with a region that has no events
-pub begins : (about : Local) (seats shown sequence : ℕ) → IsLocal about → 1 ≤ seats → about.past ≡ [] → shown ≡ mirror about.start about.past → checksum_after about.start about.past < 2 ^ 32 →
-    sequence ≡ sequence_after about.start about.past → sequence < 2 ^ 32 → TableIs about seats (opening (0 ∷ 0 ∷ shown ∷ sequence ∷ []) (Some about ∷ []) (newcomer about seats))
+pub begins : (about : Local) (seats shown sequence : ℕ) → IsLocal about → 1 ≤ seats → about.past ≡ [] → shown ≡ mirror checksum_after about.start about.past → checksum_after about.start about.past < 2 ^ 32 →
+    sequence ≡ mirror sequence_after about.start about.past → sequence_after about.start about.past < 2 ^ 32 → TableIs about seats (opening (0 ∷ 0 ∷ shown ∷ sequence ∷ []) (Some about ∷ []) (newcomer about seats))
 begins about seats shown sequence local some_seats gone shown_is fits sequence_is sequence_fits = record {
   now = about;
   owner = λ _. 0;
@@ -283,7 +285,8 @@ begins about seats shown sequence local some_seats gone shown_is fits sequence_i
   free = λ _. (refl, sym (ap length gone));
   continues = record { start = refl; listed = refl; admitted = λ n. refl; lawful = local.lawful; unreserved = λ n _. (unkept about local gone n).0 };
   beyond = λ n _. nothing n;
-  mirrored = record { shown_at = about.past; since = []; past = refl; shown_is = shown_is; quiet = tt; fits = fits; sequence_is = sequence_is; sequence_fits = sequence_fits };
+  of_checksum = record { shown_at = about.past; since = []; past_is = refl; shown_is = shown_is; quiet = tt; fits = fits };
+  of_sequence = record { shown_at = about.past; since = []; past_is = refl; shown_is = sequence_is; quiet = tt; fits = sequence_fits };
 }
   where
     nothing : (n : ℕ) → NoneOf n about.past

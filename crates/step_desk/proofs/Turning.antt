@@ -11,7 +11,7 @@ use Rattle.region_words.specs.declared.event.What.{What}
 use Rattle.region_words.proofs.Regions.{lawful_region}
 use Rattle.step_desk.specs.declared.view.Stage.TheVariants.{Idle, Holding, Counted}
 use Rattle.step_desk.specs.declared.view.View.{View}
-use Rattle.step_desk.specs.Mirrors.{checksum_after, sequence_after, mirror}
+use Rattle.step_desk.specs.Mirrors.{Words, checksum_after, sequence_after, changes_made, mirror}
 use Rattle.step_desk.specs.Steps.{M, seeing, seeing_slot, Took, Carries, PutsBack, CanCount, ChangesOneWord, joined, longer, shorter, numbers_of_shorter, Follows}
 use Rattle.step_desk.specs.Passes.{IsTaken, IsShown}
 use Rattle.step_desk.proofs.Lists.{by_lengths}
@@ -20,8 +20,9 @@ use Rattle.step_desk.proofs.Lists.{by_lengths}
 pub meta_words : (start : Region) (past : List Event) (w : ℕ) → w < 1024 → Lawful start past → IsRegion start → 4 * w + 4 ≤ length (region_after start past).meta_bytes
 meta_words start past w few lawful region = let file = (lawful_region start past lawful region).meta_file in omega (arith, few, file.pages, file.not_empty)
 
-pub mirror_is : (m checksum sequence changes events : ℕ) (start : Region) (past : List Event) → IsShown checksum sequence changes events start past → m ≡ checksum + 4294967296 * changes → m ≡ mirror start past
-mirror_is m checksum sequence changes events start past s is = is ∙ (λ i. s.checksum_is i + 4294967296 * s.changes_are i)
+-- a word beside a number of changes is a mirror
+pub mirror_is : (word : Words) (m shown changes : ℕ) (start : Region) (past : List Event) → m ≡ shown + 4294967296 * changes → shown ≡ word start past → changes ≡ changes_made past → m ≡ mirror word start past
+mirror_is word m shown changes start past is shown_is changes_are = is ∙ (λ i. shown_is i + 4294967296 * changes_are i)
 
 -- the slot of the pass that has just taken the turn
 pub took_slot : (me new : M) (x : Local) → Took me x (Some x) new → new.1 ≡ (0, Some x) ∷ rest new.1

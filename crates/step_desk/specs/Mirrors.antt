@@ -16,11 +16,15 @@ sequence_after start past = (record_of (region_after start past)).sequence
 abbrev pub changes_made : List Event → ℕ
 changes_made past = length (changes_of past)
 
--- the checksum with the number of changes above it, in one word of 64 bits
-abbrev pub mirror : Region → List Event → ℕ
-mirror start past = checksum_after start past + 4294967296 * changes_made past
+-- A word of the record, as it is after some events.
+abbrev pub Words : Type 0
+Words = Region → List Event → ℕ
 
--- each journal on the way from that one, by these events, has its checksum
-abbrev pub Quiet : Region → List Event → List Event → Type 0
-Quiet start [] shown_at = ⊤
-Quiet start (e ∷ since) shown_at = Quiet start since shown_at × (checksum_after start (e ∷ (since ++ shown_at)) ≡ checksum_after start shown_at)
+-- this word with the number of changes above it, in one word of 64 bits
+abbrev pub mirror : Words → Region → List Event → ℕ
+mirror word start past = word start past + 4294967296 * changes_made past
+
+-- in each journal on the way from that one, by these events, this word is the same
+abbrev pub Quiet : Words → Region → List Event → List Event → Type 0
+Quiet word start [] shown_at = ⊤
+Quiet word start (e ∷ since) shown_at = Quiet word start since shown_at × (word start (e ∷ (since ++ shown_at)) ≡ word start shown_at)

@@ -110,8 +110,8 @@ share_of table v counts =
       tag = tag_of table v;
     }
 
-abbrev pub seat_state : PassState → ShareState
-seat_state s = share_of s.table s.view s.counts
+abbrev pub state_of : PassState → ShareState
+state_of s = share_of s.table s.view s.counts
 
 -- What a user of a seat knows of it after calls that know it as a share alone.
 pub record StaysAt (old new : PassState) : Type 0 where

@@ -4,6 +4,7 @@ use mathlib.Core.Option.{some}
 use lib.ListN.{get_elem?}
 use Rattle.atomic_table.specs.Table.{State}
 use Rattle.lock_rules.specs.declared.table.LockKind.TheVariants.{Exclusive}
+use Rattle.region_words.specs.Region.{Region}
 use Rattle.region_words.specs.Past.{NoneOf}
 use Rattle.region_words.specs.Lawful.{Lawful}
 use Rattle.region_words.specs.Local.{Local, account_of, lock_after, reserved_in}
@@ -11,7 +12,7 @@ use Rattle.region_words.specs.declared.event.Event.{Event}
 use Rattle.step_desk.specs.declared.view.Stage.{Stage}
 use Rattle.step_desk.specs.declared.view.Stage.TheVariants.{Idle, Holding, Counted}
 use Rattle.step_desk.specs.declared.view.View.{View}
-use Rattle.step_desk.specs.Mirrors.{checksum_after, sequence_after, mirror, Quiet}
+use Rattle.step_desk.specs.Mirrors.{Words, checksum_after, sequence_after, mirror, Quiet}
 use Rattle.step_desk.specs.Numbers.{Among, Answers, others_to}
 
 -- the size of the data file for which an opener has reserved room
@@ -65,16 +66,14 @@ abbrev pub Views : Local → ℕ → Local → ℕ → ℕ → (ℕ → ℕ) →
 Views about seats now turn count owner views =
     (i : ℕ) (v : View) → get_elem? views i ≡ some v → v.live ≡ true → LiveIs about seats now turn count owner i v
 
--- Word 2 is the mirror of an earlier journal, and the checksum has not changed since. Word 3 is the sequence.
-pub record Mirrored (about now : Local) (shown sequence : ℕ) : Type 0 where
+-- This is the mirror of an earlier journal, and the word that it mirrors has not changed since.
+pub record Mirrored (word : Words) (start : Region) (past : List Event) (shown : ℕ) : Type 0 where
   pub shown_at : List Event
   pub since : List Event
-  pub past : now.past ≡ since ++ shown_at
-  pub shown_is : shown ≡ mirror about.start shown_at
-  pub quiet : Quiet about.start since shown_at
-  pub fits : checksum_after about.start shown_at < 2 ^ 32
-  pub sequence_is : sequence ≡ sequence_after about.start now.past
-  pub sequence_fits : sequence < 2 ^ 32
+  pub past_is : past ≡ since ++ shown_at
+  pub shown_is : shown ≡ mirror word start shown_at
+  pub quiet : Quiet word start since shown_at
+  pub fits : word start shown_at < 2 ^ 32
 
 -- A desk that began with this region and this number of seats. Word 0 is the count of the events, and word 1 the number whose turn it is, or 0.
 pub record TableIs (about : Local) (seats : ℕ) (s : State (Option Local) View) : Type 0 where
@@ -92,7 +91,9 @@ pub record TableIs (about : Local) (seats : ℕ) (s : State (Option Local) View)
   pub free : turn ≡ 0 → (s.homes ≡ some (Some now) ∷ []) × (count ≡ length now.past)
   pub continues : Continues about now
   pub beyond : (n : ℕ) → seats < n → NoneOf n now.past
-  pub mirrored : Mirrored about now shown sequence
+  -- words 2 and 3 mirror the checksum and the sequence
+  pub of_checksum : Mirrored checksum_after about.start now.past shown
+  pub of_sequence : Mirrored sequence_after about.start now.past sequence
 
 -- the pass of opener 1, which may hand out the other numbers
 abbrev pub newcomer : Local → ℕ → View

@@ -12,7 +12,7 @@ use Rattle.region_words.specs.declared.event.Event.{Event}
 use Rattle.step_desk.specs.declared.view.Stage.{Stage}
 use Rattle.step_desk.specs.declared.view.Stage.TheVariants.{Idle, Holding, Counted}
 use Rattle.step_desk.specs.declared.view.View.{View}
-use Rattle.step_desk.specs.Mirrors.{checksum_after, sequence_after, changes_made, mirror}
+use Rattle.step_desk.specs.Mirrors.{Words, checksum_after, sequence_after, changes_made, mirror}
 use Rattle.step_desk.specs.Numbers.{Among, without, numbers}
 use Rattle.step_desk.specs.Rule.{room_in, Continues}
 
@@ -108,27 +108,21 @@ pub record Looked (me new : M) : Type 0 where
   pub others : NoneOf me.0.who later
   pub lawful : Lawful me.0.about.start (later ++ me.0.seen)
 
--- The word has that journal's checksum. Beside it stands the number of changes of an earlier one; that journal's number is this
--- or the one that the pass had seen, whichever is greater.
-pub record LookedAtChecksum (me : M) (found : ℕ) (new : M) : Type 0 where
+-- What was found is that journal's word. Beside it stands the number of changes of an earlier journal; that journal's own number
+-- is this or the one that the pass had seen, whichever is greater.
+pub record LookedAt (word : Words) (me : M) (found : ℕ) (new : M) : Type 0 where
   pub looked : Looked me new
   pub shown_at : List Event
-  pub found_is : found ≡ mirror me.0.about.start shown_at
-  pub fits : checksum_after me.0.about.start shown_at < 2 ^ 32
-  pub checksum : checksum_after me.0.about.start (looked.later ++ me.0.seen) ≡ checksum_after me.0.about.start shown_at
+  pub found_is : found ≡ mirror word me.0.about.start shown_at
+  pub fits : word me.0.about.start shown_at < 2 ^ 32
+  pub same : word me.0.about.start (looked.later ++ me.0.seen) ≡ word me.0.about.start shown_at
   pub most : max (changes_made shown_at) (changes_made me.0.seen) ≡ changes_made (looked.later ++ me.0.seen)
 
 abbrev pub peeks_at_checksum : Step (Option Local) → M → ℕ → M → Type 0
-peeks_at_checksum s me found new = LookedAtChecksum me found new
-
--- the word is that journal's sequence
-pub record LookedAtSequence (me : M) (found : ℕ) (new : M) : Type 0 where
-  pub looked : Looked me new
-  pub found_is : found ≡ sequence_after me.0.about.start (looked.later ++ me.0.seen)
-  pub fits : found < 2 ^ 32
+peeks_at_checksum s me found new = LookedAt checksum_after me found new
 
 abbrev pub peeks_at_sequence : Step (Option Local) → M → ℕ → M → Type 0
-peeks_at_sequence s me found new = LookedAtSequence me found new
+peeks_at_sequence s me found new = LookedAt sequence_after me found new
 
 -- the first journal goes on from the second, with no event of these numbers
 abbrev pub Follows : List ℕ → List Event → List Event → Type 0

@@ -4,7 +4,7 @@ ghost use Rattle.region_words.specs.Outside.{one_more};
 ghost use Rattle.step_desk.specs.Passes.{counts_after_stop, counts_after_try, no_counts};
 
 use lock_rules::Tried;
-use region_words::ShareStop;
+use region_words::{ShareStop, Unstored};
 
 /// How often the calls of a seat failed, loaded, found the lock taken, and were refused the turn.
 #[derive(Clone, Copy, Debug, PartialEq, Eq)]
@@ -73,6 +73,17 @@ impl CallCounts {
         match outcome {
             Ok(_) => self,
             Err(stop) => self.stopped(*stop),
+        }
+    }
+
+    // After a store, which isn't counted either.
+    pub(crate) fn after_store(self, outcome: &Result<(), Unstored>) -> CallCounts
+        ensures ok { OnOk outcome.now (result ≡ self) }
+        ensures err { IfErr outcome.now (λ unstored. result ≡ counts_after_stop unstored.stop self) }
+    {
+        match outcome {
+            Ok(_) => self,
+            Err(unstored) => self.stopped(unstored.stop),
         }
     }
 

@@ -11,6 +11,8 @@ use crate::plays::Token;
 use crate::steps;
 use crate::steps::Hand;
 use crate::table::Desk;
+use lock_rules::{LockKind, Tried};
+use region_words::{Mark, Peek, Share, ShareStop, Side, TornStore, Unstored};
 use std::marker::{Brand, Model};
 
 /// What one opener has seen of a desk. It has no lifetime, so a thread can own it.
@@ -115,5 +117,102 @@ impl<'a> Seat<'a> {
         ensures theirs { GoesOn other.view self.new.view.seen }
     {
         steps::join(self.desk.board(), &mut self.hand, other.hand);
+    }
+}
+
+impl<'a> Share for Seat<'a> {
+    ghost use Rattle.step_desk.specs.Passes.{state_of};
+
+    ghost state = { state_of };
+
+    fn who(&self) -> u32 {
+        self.hand.who
+    }
+
+    fn changes(&self) -> u32 {
+        self.hand.made
+    }
+
+    fn size(&mut self) -> Result<u32, ShareStop> {
+        let board = self.desk.board();
+        let mut taken = steps::take(board, &mut self.hand)?;
+        let outcome = taken.region.size();
+        steps::put(board, &mut self.hand, taken);
+        self.hand.counts = self.hand.counts.after_load(&outcome);
+        outcome
+    }
+
+    fn load(&mut self, side: Side, word: u32) -> Result<u32, ShareStop> {
+        let board = self.desk.board();
+        let mut taken = steps::take(board, &mut self.hand)?;
+        let outcome = taken.region.load(side, word);
+        steps::put(board, &mut self.hand, taken);
+        self.hand.counts = self.hand.counts.after_load(&outcome);
+        outcome
+    }
+
+    fn peek_checksum(&mut self) -> Result<Peek, ShareStop> {
+        Ok(steps::peek_checksum(self.desk.board(), &mut self.hand))
+    }
+
+    fn peek_sequence(&mut self) -> Result<u32, ShareStop> {
+        Ok(steps::peek_sequence(self.desk.board(), &mut self.hand))
+    }
+
+    fn reserve(&mut self, events: u32, size: u32) -> Result<(), ShareStop> {
+        let board = self.desk.board();
+        let mut taken = steps::take(board, &mut self.hand)?;
+        let outcome = taken.region.reserve(events, size);
+        steps::put(board, &mut self.hand, taken);
+        self.hand.counts = self.hand.counts.after_call(&outcome);
+        outcome
+    }
+
+    fn store(&mut self, side: Side, word: u32, value: u32, mark: Mark) -> Result<(), Unstored> {
+        let board = self.desk.board();
+        let mut taken = match steps::take(board, &mut self.hand) {
+            Ok(taken) => taken,
+            Err(stop) => return Err(Unstored { stop, mark }),
+        };
+        let outcome = taken.region.store(side, word, value, mark);
+        steps::put(board, &mut self.hand, taken);
+        self.hand.counts = self.hand.counts.after_store(&outcome);
+        outcome
+    }
+
+    fn grow(&mut self, size: u32) -> Result<(), ShareStop> {
+        let board = self.desk.board();
+        let mut taken = steps::take(board, &mut self.hand)?;
+        let outcome = taken.region.grow(size);
+        steps::put(board, &mut self.hand, taken);
+        self.hand.counts = self.hand.counts.after_call(&outcome);
+        outcome
+    }
+
+    fn try_lock(&mut self, kind: LockKind) -> Result<Tried, ShareStop> {
+        let board = self.desk.board();
+        let mut taken = steps::take(board, &mut self.hand)?;
+        let outcome = taken.region.try_lock(kind);
+        steps::put(board, &mut self.hand, taken);
+        self.hand.counts = self.hand.counts.after_try(&outcome);
+        outcome
+    }
+
+    fn unlock(&mut self) -> Result<(), ShareStop> {
+        let board = self.desk.board();
+        let mut taken = steps::take(board, &mut self.hand)?;
+        let outcome = taken.region.unlock();
+        steps::put(board, &mut self.hand, taken);
+        self.hand.counts = self.hand.counts.after_call(&outcome);
+        outcome
+    }
+
+    fn die(&mut self, torn: Option<TornStore>) -> Result<(), ShareStop> {
+        let board = self.desk.board();
+        let mut taken = steps::take(board, &mut self.hand)?;
+        let outcome = taken.region.die(torn);
+        steps::put(board, &mut self.hand, taken);
+        self.hand.counts = self.hand.counts.after_call(&outcome);
+        outcome
     }
 }

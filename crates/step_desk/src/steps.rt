@@ -48,13 +48,11 @@ pub struct Shown {
     pub events: u64,
 }
 
-impl Shown {
-    // The checksum, with the number of changes.
-    pub fn mirror(self) -> u64
-        ensures { result ≡ self.checksum + 4294967296 * self.changes }
-    {
-        u64::from(self.checksum) + ABOVE * u64::from(self.changes)
-    }
+// A word of the record, with the number of changes above it.
+pub fn mirror(word: u32, changes: u32) -> u64
+    ensures { result ≡ word + 4294967296 * changes }
+{
+    u64::from(word) + ABOVE * u64::from(changes)
 }
 
 /// A region that was taken from its desk, and what the table shows of it.
@@ -127,10 +125,10 @@ pub fn put(board: &Board, hand: &mut Hand, taken: Taken)
     let token = &mut hand.token;
     board.exchange(token, 0, Some(region.into_region()));
     if shown.checksum != before.checksum {
-        board.store::<Shows>(token, CHECKSUM, shown.mirror());
+        board.store::<Shows>(token, CHECKSUM, mirror(shown.checksum, shown.changes));
         count_and_give(board, token, shown.events);
     } else if shown.sequence != before.sequence {
-        board.store::<Shows>(token, SEQUENCE, u64::from(shown.sequence));
+        board.store::<Shows>(token, SEQUENCE, mirror(shown.sequence, shown.changes));
         count_and_give(board, token, shown.events);
     } else {
         count_and_give(board, token, shown.events);
@@ -160,14 +158,17 @@ pub fn peek_checksum(board: &Board, hand: &mut Hand) -> Peek
 // The sequence.
 pub fn peek_sequence(board: &Board, hand: &mut Hand) -> u32
     requires table { (hand.old.token.table_id ≡ board.now.table_id) × HasShape board.now.table_id }
-    requires ready { IsReady hand.old.who hand.old.token.me }
-    ensures same { (hand.new.token.table_id ≡ hand.old.token.table_id) × (hand.new.who ≡ hand.old.who) }
+    requires pass { PassIs hand.old.token.me hand.old.who hand.old.made }
+    ensures table { hand.new.token.table_id ≡ hand.old.token.table_id }
+    ensures pass { PassIs hand.new.token.me hand.new.who hand.new.made }
     ensures looked { Looked hand.old.token.me hand.new.token.me }
     ensures counts { hand.new.counts ≡ record hand.old.counts { loads = one_more hand.old.counts.loads } }
     ensures sequence { result ≡ sequence_after hand.old.token.me.0.about.start hand.new.token.me.0.seen }
 {
+    let found = board.load::<PeeksAtSequence>(&mut hand.token, SEQUENCE);
+    hand.made = hand.made.max((found / ABOVE) as u32);
     hand.counts = hand.counts.loaded();
-    board.load::<PeeksAtSequence>(&mut hand.token, SEQUENCE) as u32
+    (found % ABOVE) as u32
 }
 
 // Hands a number out.

@@ -7,7 +7,7 @@ ghost use Rattle.step_desk.specs.Passes.{DeskState, HasShape, no_counts};
 
 use crate::plays::{Beginning, Board, DeskRule, Slot};
 use crate::seat::{Pass, Seat};
-use crate::steps::shown_of;
+use crate::steps::{mirror, shown_of};
 use crate::view::View;
 use atomic_table::Table;
 use expiring_map::Memory;
@@ -51,8 +51,10 @@ impl Desk {
         let shown = shown_of(&seat);
         let mut slots = Vec::new(alloc);
         slots.push(Some(seat.into_region())).map_err(|_| Memory)?;
-        let words = [0, 0, shown.mirror(), u64::from(shown.sequence)];
-        let Ok((table, token)) = Table::new(alloc, &words, slots, &beginning) else {
+        let checksum = mirror(shown.checksum, shown.changes);
+        let sequence = mirror(shown.sequence, shown.changes);
+        let Ok((table, token)) = Table::new(alloc, &[0, 0, checksum, sequence], slots, &beginning)
+        else {
             return Err(Memory);
         };
         Ok((Desk { table }, Pass::first(token)))

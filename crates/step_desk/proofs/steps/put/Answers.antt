@@ -1,4 +1,5 @@
 use Rattle.std.proofs.Common.{rules, ◌<◌, ◌^◌, sym, subst, ◌∙◌}
+use Rattle.step_desk.specs.Mirrors.{checksum_after, sequence_after}
 use Rattle.step_desk.proofs.Moves.{shows_checksum, shows_sequence}
 use Rattle.step_desk.proofs.Turning.{slotted, mirror_is, still, unchanged, counts, shown_counts}
 use Rattle.step_desk.proofs.steps.put.Goals as goal
@@ -9,7 +10,7 @@ store-requires c =
     let h = slotted _ _ _ _ _ c.into_region.ensures c.requires.holds.1 c.exchange.ensures.3 in (
       search rules,
       search rules,
-      shows_checksum _ _ _ _ _ _ _ _ h (mirror_is _ _ _ _ _ _ _ s c.mirror.ensures) (subst (λ k. k < 2 ^ 32) s.checksum_is s.checksum_fits)
+      shows_checksum _ _ _ _ _ _ _ _ h (mirror_is checksum_after _ _ _ _ _ c.mirror.ensures s.checksum_is s.changes_are) (subst (λ k. k < 2 ^ 32) s.checksum_is s.checksum_fits)
           (still _ _ _ _ _ c.into_region.ensures c.requires.holds.1 c.exchange.ensures.3 _ _ _ _ s _ _ c.requires.checksum c.requires.sequence c.if-shown-before.true),
     )
 
@@ -24,7 +25,7 @@ store-requires-then-shown-before-2 c =
     let h = slotted _ _ _ _ _ c.into_region.ensures c.requires.holds.1 c.exchange.ensures.3 in (
       search rules,
       search rules,
-      shows_sequence _ _ _ _ _ _ _ _ h (c.from.ensures ∙ s.sequence_is) (subst (λ k. k < 2 ^ 32) (sym c.from.ensures) s.sequence_fits)
+      shows_sequence _ _ _ _ _ _ _ _ h (mirror_is sequence_after _ _ _ _ _ c.mirror-then-shown-before-2.ensures s.sequence_is s.changes_are) (subst (λ k. k < 2 ^ 32) s.sequence_is s.sequence_fits)
           (unchanged _ _ _ _ _ c.into_region.ensures c.requires.holds.1 c.exchange.ensures.3 _ _ _ _ s _ _ c.requires.checksum c.requires.sequence c.if-shown-before.false),
     )
 
