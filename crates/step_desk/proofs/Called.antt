@@ -1,19 +1,18 @@
 -- A call on the region is a call on the seat, after events of others.
-use Rattle.std.proofs.Common.{◌≡◌, ◌≢◌, ◌⊎◌, ℕ, ◌+◌, ◌<◌, ◌≤◌, Bool, true, false, eqb, List, [], ◌∷◌, ◌++◌, length, refl, sym, ◌∙◌, ap, subst, inl, inr, ⊎_elim, arith, ◌||◌, ◌&&◌, not, ne_eqb, map}
+use Rattle.std.proofs.Common.{◌≡◌, ◌≢◌, ◌⊎◌, ℕ, ◌+◌, ◌<◌, ◌≤◌, true, false, eqb, List, [], ◌∷◌, ◌++◌, length, refl, sym, ◌∙◌, ap, subst, inl, inr, ⊎_elim, arith, ◌||◌, ◌&&◌, not, ne_eqb}
 use Rattle.std.proofs.lemmas.Bool.Decides.{eqb_tells}
-use Rattle.std.specs.Prelude.{Option, Some, None, IsTrue, ◌==◌, if◌then◌else◌, Contains}
+use Rattle.std.specs.Prelude.{Option, Some, None, IsTrue, ◌==◌, if◌then◌else◌}
 use Rattle.std.specs.Option.{option_map_or}
 use Rattle.atomic_table.specs.Seated.{TableId}
-use Rattle.lock_rules.specs.Locks.{Locks, holds_exclusive, MayTake}
+use Rattle.lock_rules.specs.Locks.{Locks, MayTake}
 use Rattle.lock_rules.specs.declared.table.LockKind.{LockKind}
 use Rattle.lock_rules.specs.declared.table.LockKind.TheVariants.{Shared, Exclusive}
-use Rattle.meta_record.specs.Words.{word_at, with_word}
 use Rattle.meta_record.proofs.WordLemmas.{other_word}
 use Rattle.region_words.specs.Region.{Region}
-use Rattle.region_words.specs.Past.{region_after, locks_after, has_died, NoneOf}
-use Rattle.region_words.specs.Lawful.{Lawful, IsPossible}
+use Rattle.region_words.specs.Past.{region_after, locks_after, has_died}
+use Rattle.region_words.specs.Lawful.{Lawful}
 use Rattle.region_words.specs.Share.{ShareState, Counts, Left, After, Goes, Fails, IsTurnedAway, IsNotDue, made_by, most_events, total, places_for, places_kept, unlock_place, HasRoom, IsFull}
-use Rattle.region_words.specs.Local.{Local, Seated, seat_state, lock_after, reserved_in}
+use Rattle.region_words.specs.Local.{Seated, seat_state, lock_after, reserved_in}
 use Rattle.region_words.specs.declared.event.Side.TheVariants.{Data, Meta}
 use Rattle.region_words.specs.declared.event.What.{What}
 use Rattle.region_words.specs.declared.event.What.TheVariants.{Store, Grow, Lock, Unlock, Died}
@@ -27,10 +26,10 @@ use Rattle.step_desk.specs.declared.view.Stage.TheVariants.{Idle, Holding}
 use Rattle.step_desk.specs.declared.view.View.{View}
 use Rattle.step_desk.specs.Mirrors.{checksum_after, sequence_after}
 use Rattle.step_desk.specs.Rule.{room_in, is_admitted, Continues}
-use Rattle.step_desk.specs.Steps.{M, seeing, PutsBack, ChangesOneWord}
-use Rattle.step_desk.specs.Passes.{IsKnown, PassIs, share_of, counts_of}
+use Rattle.step_desk.specs.Steps.{seeing, PutsBack, ChangesOneWord}
+use Rattle.step_desk.specs.Passes.{IsKnown, share_of, counts_of}
 use Rattle.step_desk.proofs.Lists.{none_made}
-use Rattle.step_desk.proofs.Carrying.{From, own_if, lock_is, ended_is, places_are, room_is}
+use Rattle.step_desk.proofs.Carrying.{From, own_if}
 
 -- a seat says of itself what its pass has seen
 pub is_sound : (table : TableId) (v : View) (counts : CallCounts) → IsKnown v → Rattle.region_words.specs.Share.IsSound (share_of table v counts)

@@ -1,22 +1,20 @@
 -- A region that was taken is where the pass left it, but for events of others: what the pass might do it may still do.
-use Rattle.std.proofs.Common.{◌≡◌, ◌≢◌, ◌⊎◌, ℕ, ◌+◌, ◌-◌, ◌*◌, ◌<◌, ◌≤◌, Bool, true, false, List, [], ◌∷◌, ◌++◌, length, replicate, refl, sym, ◌∙◌, ap, subst, inl, inr, ⊎_elim, arith, length-append, ◌||◌, not, eq-eqb}
-use Rattle.std.specs.Prelude.{Option, Some, None, IsTrue, ◌==◌, if◌then◌else◌}
+use Rattle.std.proofs.Common.{◌≡◌, ◌≢◌, ℕ, ◌-◌, ◌≤◌, Bool, true, false, List, [], ◌∷◌, ◌++◌, length, replicate, refl, sym, ◌∙◌, ap, subst, inl, inr, arith, length-append, ◌||◌, not, eq-eqb}
+use Rattle.std.specs.Prelude.{Option, Some, None, ◌==◌, if◌then◌else◌}
 use Rattle.std.specs.FinSet as set
 use Rattle.atomic_table.specs.Seated.{TableId}
-use Rattle.lock_rules.specs.Locks.{Locks, IsSound, holds, holds_exclusive}
+use Rattle.lock_rules.specs.Locks.{Locks, IsSound, holds_exclusive}
 use Rattle.lock_rules.specs.declared.table.LockKind.{LockKind}
 use Rattle.lock_rules.specs.declared.table.LockKind.TheVariants.{Shared, Exclusive}
 use Rattle.meta_record.proofs.WordLemmas.{length-with_word}
 use Rattle.region_words.specs.Region.{Region}
 use Rattle.region_words.specs.Past.{region_after, region_step, locks_after, has_died, NoneOf}
-use Rattle.region_words.specs.Lawful.{Lawful, IsPossible, IsWordOf, Phase, Between, Reaches}
-use Rattle.region_words.specs.Images.{IsResting}
+use Rattle.region_words.specs.Lawful.{Lawful, IsPossible, IsWordOf}
 use Rattle.region_words.specs.Coming.{IsStoring}
-use Rattle.region_words.specs.Share.{ShareState, lock_of, torn_word, MayMake, MayTearAt, HasWord}
-use Rattle.region_words.specs.Local.{Local, Seated, seat_state, lock_after, reserved_in, event_of}
+use Rattle.region_words.specs.Share.{lock_of, torn_word, MayTearAt, HasWord}
+use Rattle.region_words.specs.Local.{Seated, seat_state, lock_after, reserved_in, event_of}
 use Rattle.region_words.specs.declared.event.Side.{Side}
 use Rattle.region_words.specs.declared.event.Side.TheVariants.{Data, Meta}
-use Rattle.region_words.specs.declared.event.TornWord.{TornWord}
 use Rattle.region_words.specs.declared.event.What.{What}
 use Rattle.region_words.specs.declared.event.What.TheVariants.{Store, Grow, Lock, Unlock, Died}
 use Rattle.region_words.specs.declared.event.Event.{Event}

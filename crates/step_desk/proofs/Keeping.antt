@@ -1,20 +1,17 @@
 -- What stays true of a pass through peeks, splits and joins.
-use Rattle.std.proofs.Common.{◌≡◌, ◌≢◌, ℕ, ◌+◌, ◌*◌, ◌/◌, ◌%◌, ◌<◌, ◌≤◌, ◌^◌, Bool, true, false, leb, max, List, [], ◌∷◌, ◌++◌, length, refl, sym, ◌∙◌, ap, subst, inl, inr, ⊎_elim, arith, append_assoc}
+use Rattle.std.proofs.Common.{◌≡◌, ℕ, ◌+◌, ◌*◌, ◌/◌, ◌%◌, ◌≤◌, max, List, [], ◌++◌, refl, sym, ◌∙◌, ap, subst, inl, arith}
 use Rattle.std.proofs.lemmas.Nat.{div-mul-add, mod-mul-add}
-use Rattle.std.specs.Prelude.{Option, Some, None, if◌then◌else◌}
-use Rattle.lock_rules.specs.declared.table.LockKind.TheVariants.{Exclusive}
-use Rattle.region_words.specs.Region.{Region}
-use Rattle.region_words.specs.Past.{NoneOf, locks_after}
+use Rattle.std.specs.Prelude.{if◌then◌else◌}
+use Rattle.region_words.specs.Past.{NoneOf}
 use Rattle.region_words.specs.Lawful.{Lawful}
 use Rattle.region_words.specs.Local.{Local, IsLocal, lock_after}
 use Rattle.region_words.specs.declared.event.Event.{Event}
 use Rattle.region_words.proofs.Later.{lock_others}
-use Rattle.step_desk.specs.declared.view.Stage.TheVariants.{Idle}
 use Rattle.step_desk.specs.declared.view.View.{View}
-use Rattle.step_desk.specs.Mirrors.{Words, changes_made, mirror}
-use Rattle.step_desk.specs.Numbers.{Among, Answers, GoesOn, numbers}
+use Rattle.step_desk.specs.Mirrors.{Words, changes_made}
+use Rattle.step_desk.specs.Numbers.{Among, GoesOn, numbers}
 use Rattle.step_desk.specs.Rule.{newcomer}
-use Rattle.step_desk.specs.Steps.{M, having_seen, Looked, LookedAt, Settled, keeper, handed, joined, longer, shorter, numbers_of_shorter, Follows}
+use Rattle.step_desk.specs.Steps.{M, having_seen, Looked, LookedAt, keeper, handed, joined, longer, shorter, numbers_of_shorter, Follows}
 use Rattle.step_desk.specs.Passes.{IsKnown, PassIs}
 use Rattle.step_desk.proofs.Lists.{among_without, others_within, more_changes, by_lengths}
 use Rattle.step_desk.proofs.Passing.{numbers_answers}

@@ -1,5 +1,5 @@
 -- Each step on the table keeps the rule.
-use Rattle.std.proofs.Common.{◌≡◌, ◌≢◌, ℕ, ◌^◌, ◌<◌, ◌≤◌, Bool, true, false, eqb, leb, max, List, [], ◌∷◌, ◌++◌, length, get_or, set, refl, sym, ◌∙◌, ap, subst, inl, inr, arith, append_assoc}
+use Rattle.std.proofs.Common.{◌≡◌, ◌≢◌, ℕ, ◌^◌, ◌<◌, ◌≤◌, true, eqb, max, List, [], ◌∷◌, ◌++◌, length, get_or, set, refl, sym, ◌∙◌, ap, subst, inl, inr, arith, append_assoc}
 use Rattle.std.proofs.lemmas.List.{append-nil}
 use Rattle.std.specs.Prelude.{Option, Some}
 use mathlib.Core.Option.{none, some}
@@ -11,15 +11,15 @@ use Rattle.region_words.specs.Region.{Region}
 use Rattle.region_words.specs.Past.{NoneOf}
 use Rattle.region_words.specs.Lawful.{Lawful}
 use Rattle.region_words.specs.Share.{made_by}
-use Rattle.region_words.specs.Local.{Local, reserved_in}
+use Rattle.region_words.specs.Local.{Local}
 use Rattle.region_words.specs.declared.event.Event.{Event}
 use Rattle.region_words.specs.declared.event.What.{What}
 use Rattle.step_desk.specs.declared.view.Stage.{Stage}
 use Rattle.step_desk.specs.declared.view.Stage.TheVariants.{Idle, Holding, Counted}
 use Rattle.step_desk.specs.declared.view.View.{View}
 use Rattle.step_desk.specs.Mirrors.{Words, checksum_after, sequence_after, changes_made, mirror, Quiet}
-use Rattle.step_desk.specs.Rule.{room_in, Continues, StageIs, IsFresh, LiveIs, Views, Mirrored, TableIs}
-use Rattle.step_desk.specs.Steps.{M, seeing, having_seen, idle, IsReady, LookedAt, Took, Carries, CanCount, OthersStand, takes_turn, seeing_slot, shows, counts, gives_turn, Looked, peeks_at_checksum, peeks_at_sequence, settles}
+use Rattle.step_desk.specs.Rule.{Continues, StageIs, LiveIs, Views, Mirrored, TableIs}
+use Rattle.step_desk.specs.Steps.{M, seeing, having_seen, idle, IsReady, LookedAt, Carries, CanCount, OthersStand, takes_turn, seeing_slot, shows, counts, gives_turn, Looked, peeks_at_checksum, peeks_at_sequence, settles}
 use Rattle.step_desk.proofs.Lists.{none_append, none_made, none_first, none_second, lawful_before, more_changes, cut, by_lengths}
 use Rattle.step_desk.proofs.Views.{at_stage, views_set, other_live}
 

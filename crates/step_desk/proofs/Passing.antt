@@ -1,12 +1,12 @@
 -- How a pass is cut in two, how two are put together, and how a desk begins.
-use Rattle.std.proofs.Common.{◌≡◌, ◌≢◌, ◌⊎◌, ℕ, zero, suc, ◌+◌, ◌-◌, ◌^◌, ◌<◌, ◌≤◌, Bool, true, false, eqb, leb, cond, eq-eqb, ne_eqb, List, [], ◌∷◌, ◌++◌, length, set, refl, sym, ◌∙◌, ap, subst, inl, inr, ⊎_elim, arith}
+use Rattle.std.proofs.Common.{◌≡◌, ◌≢◌, ◌⊎◌, ℕ, zero, suc, ◌+◌, ◌-◌, ◌^◌, ◌<◌, ◌≤◌, true, false, eqb, leb, cond, eq-eqb, ne_eqb, List, [], ◌∷◌, ◌++◌, length, set, refl, sym, ◌∙◌, ap, subst, inl, inr, ⊎_elim, arith}
 use Rattle.std.proofs.lemmas.List.{append-nil}
 use Rattle.std.specs.Prelude.{Some, None, if◌then◌else◌}
 use mathlib.Core.Option.{some, some-injective, some-ne-none}
 use lib.ListN.{get_elem?}
 use Rattle.atomic_table.specs.Table.{Splits, Joins, opening}
 use Rattle.atomic_table.proofs.Lists.{at_set}
-use Rattle.region_words.specs.Past.{NoneOf, locks_after}
+use Rattle.region_words.specs.Past.{NoneOf}
 use Rattle.region_words.specs.Share.{unlock_place}
 use Rattle.region_words.specs.Local.{Local, IsLocal, account_of, lock_after, reserved_in}
 use Rattle.region_words.specs.declared.event.Event.{Event}
@@ -14,8 +14,8 @@ use Rattle.region_words.proofs.LockOf.{lock_at_first}
 use Rattle.step_desk.specs.declared.view.Stage.TheVariants.{Idle}
 use Rattle.step_desk.specs.declared.view.View.{View}
 use Rattle.step_desk.specs.Mirrors.{checksum_after, sequence_after, mirror}
-use Rattle.step_desk.specs.Numbers.{Among, Answers, numbers, others_to}
-use Rattle.step_desk.specs.Rule.{room_in, Continues, StageIs, IsFresh, LiveIs, Views, TableIs, newcomer}
+use Rattle.step_desk.specs.Numbers.{Among, Answers, numbers}
+use Rattle.step_desk.specs.Rule.{room_in, StageIs, LiveIs, Views, TableIs, newcomer}
 use Rattle.step_desk.specs.Steps.{keeper, handed, joined, spent}
 use Rattle.step_desk.proofs.Lists.{among_without, among_append, among_left, among_right, others_within, none_first, cut, by_lengths}
 use Rattle.step_desk.proofs.Views.{at_stage, views_set}

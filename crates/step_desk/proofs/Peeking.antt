@@ -1,16 +1,14 @@
 -- Calls on a seat that don't reach the region: peeks, and those that were refused the turn.
-use Rattle.std.proofs.Common.{◌≡◌, ℕ, Bool, true, false, List, [], ◌∷◌, ◌++◌, refl, sym, ◌∙◌, ap, subst, ◌||◌, not}
-use Rattle.std.specs.Prelude.{Option, Some, Result, Ok, Err, IfErr, ◌==◌, if◌then◌else◌}
+use Rattle.std.proofs.Common.{◌≡◌, ℕ, true, false, [], ◌++◌, refl, sym, ◌∙◌, ap, subst, ◌||◌, not}
 use Rattle.atomic_table.specs.Seated.{TableId}
-use Rattle.region_words.specs.Region.{Region, record_of}
-use Rattle.region_words.specs.Past.{region_after, has_died}
+use Rattle.region_words.specs.Region.{record_of}
+use Rattle.region_words.specs.Past.{region_after}
 use Rattle.region_words.specs.Outside.{one_more}
-use Rattle.region_words.specs.Share.{ShareState, After, Goes, IsTurnedAway, Stops, loaded, turned_away}
+use Rattle.region_words.specs.Share.{Goes, IsTurnedAway, Stops, loaded}
 use Rattle.region_words.specs.declared.stops.ShareStop.{ShareStop}
 use Rattle.region_words.specs.declared.stops.ShareStop.TheVariants.{Turn}
 use Rattle.region_words.proofs.Later.{lock_others, died_others}
 use Rattle.step_desk.specs.declared.counts.CallCounts.{CallCounts}
-use Rattle.step_desk.specs.declared.view.View.{View}
 use Rattle.step_desk.specs.Mirrors.{checksum_after, sequence_after}
 use Rattle.step_desk.specs.Rule.{is_admitted}
 use Rattle.step_desk.specs.Steps.{M, having_seen, Looked}

@@ -1,6 +1,6 @@
 -- What a call on a seat answers, by what the call on its region answered.
-use Rattle.std.proofs.Common.{◌≡◌, ◌≢◌, ℕ, ◌+◌, ◌-◌, ◌≤◌, Bool, true, false, max, List, [], ◌∷◌, length, refl, sym, ◌∙◌, ap, subst, arith, ◌||◌, not}
-use Rattle.std.specs.Prelude.{Option, Some, None, Result, Ok, Err, IfOk, OnOk, IfErr, ◌==◌, if◌then◌else◌}
+use Rattle.std.proofs.Common.{◌≡◌, ◌≢◌, ℕ, ◌+◌, ◌-◌, ◌≤◌, true, false, max, List, [], ◌∷◌, length, refl, sym, ◌∙◌, ap, subst, arith}
+use Rattle.std.specs.Prelude.{Option, Some, None, Result, Ok, Err, IfOk, OnOk, IfErr}
 use Rattle.atomic_table.specs.Seated.{TableId}
 use Rattle.lock_rules.specs.Locks.{MayTake, IsLeastAgainst}
 use Rattle.lock_rules.specs.declared.table.LockKind.{LockKind}
@@ -8,14 +8,13 @@ use Rattle.lock_rules.specs.declared.table.LockKind.TheVariants.{Exclusive}
 use Rattle.lock_rules.specs.declared.table.Tried.{Tried}
 use Rattle.lock_rules.specs.declared.table.Tried.TheVariants.{Taken, Busy}
 use Rattle.region_words.specs.Region.{Region}
-use Rattle.region_words.specs.Past.{region_after, locks_after, has_died}
+use Rattle.region_words.specs.Past.{region_after, locks_after}
 use Rattle.region_words.specs.Outside.{one_more}
-use Rattle.region_words.specs.Share.{ShareState, Counts, Left, After, Goes, Fails, IsTurnedAway, Stops, StopsReserving, StopsTrying, Tries, Dies, HasRoom, IsFull, IsFree, unmoved, stored, locked, unlocked_by, died, failed, loaded, refused, turned_away, reserving, torn_word, MayTearAt}
-use Rattle.region_words.specs.Local.{Local, Seated, seat_state, lock_after}
+use Rattle.region_words.specs.Share.{ShareState, Left, After, Goes, Fails, IsTurnedAway, Stops, StopsReserving, StopsTrying, Tries, Dies, HasRoom, IsFull, IsFree, unmoved, stored, locked, unlocked_by, died, failed, loaded, refused, turned_away, reserving, torn_word, MayTearAt}
+use Rattle.region_words.specs.Local.{Seated, seat_state, lock_after}
 use Rattle.region_words.specs.Told.{OnTold}
 use Rattle.region_words.specs.declared.event.TornWord.{TornWord}
 use Rattle.region_words.specs.declared.event.What.{What}
-use Rattle.region_words.specs.declared.event.What.TheVariants.{Lock, Unlock, Died}
 use Rattle.region_words.specs.declared.stops.ShareStop.{ShareStop}
 use Rattle.region_words.specs.declared.stops.ShareStop.TheVariants.{Failed, Turn, Memory, JournalFull}
 use Rattle.region_words.specs.declared.stops.TornStore.{TornStore}
@@ -24,7 +23,6 @@ use Rattle.step_desk.specs.declared.counts.CallCounts.{CallCounts}
 use Rattle.step_desk.specs.declared.view.Stage.TheVariants.{Idle, Holding}
 use Rattle.step_desk.specs.declared.view.View.{View}
 use Rattle.step_desk.specs.Mirrors.{changes_made}
-use Rattle.step_desk.specs.Rule.{is_admitted}
 use Rattle.step_desk.specs.Steps.{M, seeing, PutsBack}
 use Rattle.step_desk.specs.Passes.{IsKnown, PassIs, IsTaken, PassState, share_of, state_of, counts_of, counts_after_stop, counts_after_try}
 use Rattle.step_desk.proofs.Carrying.{From, from_taken, lock_is, ended_is, places_are, room_is, region_same}

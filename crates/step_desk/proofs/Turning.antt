@@ -1,18 +1,18 @@
 -- From one step of a turn to the next.
-use Rattle.std.proofs.Common.{◌≡◌, ◌≢◌, ℕ, ◌+◌, ◌*◌, ◌<◌, ◌≤◌, ◌^◌, Bool, true, false, leb, List, [], ◌∷◌, length, refl, sym, ◌∙◌, ap, subst, inl, inr, ⊎_elim, arith}
+use Rattle.std.proofs.Common.{◌≡◌, ◌≢◌, ℕ, ◌+◌, ◌*◌, ◌<◌, ◌≤◌, List, [], ◌∷◌, length, refl, sym, ◌∙◌, ap, subst, ⊎_elim, arith}
 use Rattle.std.specs.Prelude.{Option, Some, None, if◌then◌else◌}
 use Rattle.atomic_table.specs.Table.{rest}
 use Rattle.region_words.specs.Region.{Region, IsRegion}
 use Rattle.region_words.specs.Past.{region_after}
 use Rattle.region_words.specs.Lawful.{Lawful}
-use Rattle.region_words.specs.Local.{Local, Seated}
+use Rattle.region_words.specs.Local.{Local}
 use Rattle.region_words.specs.declared.event.Event.{Event}
 use Rattle.region_words.specs.declared.event.What.{What}
 use Rattle.region_words.proofs.Regions.{lawful_region}
-use Rattle.step_desk.specs.declared.view.Stage.TheVariants.{Idle, Holding, Counted}
+use Rattle.step_desk.specs.declared.view.Stage.TheVariants.{Holding, Counted}
 use Rattle.step_desk.specs.declared.view.View.{View}
 use Rattle.step_desk.specs.Mirrors.{Words, checksum_after, sequence_after, changes_made, mirror}
-use Rattle.step_desk.specs.Steps.{M, seeing, seeing_slot, Took, Carries, PutsBack, CanCount, ChangesOneWord, joined, longer, shorter, numbers_of_shorter, Follows}
+use Rattle.step_desk.specs.Steps.{M, seeing, seeing_slot, Took, Carries, PutsBack, CanCount, joined, longer, shorter, numbers_of_shorter, Follows}
 use Rattle.step_desk.specs.Passes.{IsTaken, IsShown}
 use Rattle.step_desk.proofs.Lists.{by_lengths}
 

@@ -6,7 +6,6 @@ use Rattle.atomic_table.proofs.Lists.{at_set}
 use Rattle.region_words.specs.Past.{NoneOf}
 use Rattle.region_words.specs.Share.{made_by}
 use Rattle.region_words.specs.Local.{Local}
-use Rattle.region_words.specs.declared.event.Event.{Event}
 use Rattle.region_words.specs.declared.event.What.{What}
 use Rattle.step_desk.specs.declared.view.Stage.{Stage}
 use Rattle.step_desk.specs.declared.view.Stage.TheVariants.{Idle, Holding, Counted}

@@ -1,5 +1,5 @@
 -- A desk, and a pass or a seat at it, as contracts see them.
-use Rattle.std.specs.Prelude.{◌≡◌, ◌≢◌, ℕ, ◌<◌, ◌≤◌, ◌^◌, ◌==◌, not, ◌||◌, if◌then◌else◌, Bool, false, List, length, Option, Some, None}
+use Rattle.std.specs.Prelude.{◌≡◌, ◌≢◌, ℕ, ◌<◌, ◌≤◌, ◌^◌, ◌==◌, not, ◌||◌, if◌then◌else◌, false, List, length, Some, None}
 use base.Stored.{Gv, Coded, coded×, coded_list, coded_ℕ}
 use Rattle.atomic_table.specs.Seated.{TableId, table_id_coded}
 use Rattle.lock_rules.specs.declared.limits.TheConstants.{MOST_OPENERS}
@@ -8,7 +8,7 @@ use Rattle.lock_rules.specs.declared.table.Tried.{Tried}
 use Rattle.lock_rules.specs.declared.table.Tried.TheVariants.{Taken, Busy}
 use Rattle.region_words.specs.Outside.{one_more}
 use Rattle.region_words.specs.Region.{Region, IsRegion}
-use Rattle.region_words.specs.Past.{NoneOf, has_died}
+use Rattle.region_words.specs.Past.{has_died}
 use Rattle.region_words.specs.Lawful.{Lawful}
 use Rattle.region_words.specs.Share.{ShareState, Counts}
 use Rattle.region_words.specs.Local.{Local, Seated, lock_after}

@@ -6,7 +6,7 @@ use Rattle.region_words.specs.Region.{Region}
 use Rattle.region_words.specs.Past.{NoneOf}
 use Rattle.region_words.specs.Lawful.{Lawful}
 use Rattle.region_words.specs.Share.{made_by}
-use Rattle.region_words.specs.Local.{Local, Seated, reserved_in}
+use Rattle.region_words.specs.Local.{Local, reserved_in}
 use Rattle.region_words.specs.declared.event.What.{What}
 use Rattle.region_words.specs.declared.event.Event.{Event}
 use Rattle.step_desk.specs.declared.view.Stage.{Stage}

@@ -1,7 +1,7 @@
-use Rattle.std.proofs.Common.{rules, ◌<◌, ◌^◌, sym, subst, ◌∙◌}
+use Rattle.std.proofs.Common.{rules, ◌<◌, ◌^◌, subst}
 use Rattle.step_desk.specs.Mirrors.{checksum_after, sequence_after}
 use Rattle.step_desk.proofs.Moves.{shows_checksum, shows_sequence}
-use Rattle.step_desk.proofs.Turning.{slotted, mirror_is, still, unchanged, counts, shown_counts}
+use Rattle.step_desk.proofs.Turning.{slotted, mirror_is, still, unchanged, shown_counts}
 use Rattle.step_desk.proofs.steps.put.Goals as goal
 
 pub store-requires : goal.store-requires

@@ -1,4 +1,4 @@
-use Rattle.std.proofs.Common.{rules, ◌≤◌, ap, arith, length}
+use Rattle.std.proofs.Common.{ap, arith, length}
 use Rattle.step_desk.proofs.Turning.{meta_words}
 use Rattle.step_desk.proofs.steps.shown_of.Goals as goal
 

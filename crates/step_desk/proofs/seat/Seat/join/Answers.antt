@@ -1,4 +1,4 @@
-use Rattle.std.proofs.Common.{rules, sym, subst}
+use Rattle.std.proofs.Common.{sym, subst}
 use Rattle.step_desk.specs.Numbers.{GoesOn}
 use Rattle.step_desk.specs.Steps.{M}
 use Rattle.step_desk.specs.Passes.{PassState}

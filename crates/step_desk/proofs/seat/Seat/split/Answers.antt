@@ -1,4 +1,4 @@
-use Rattle.std.proofs.Common.{rules, refl, sym, subst}
+use Rattle.std.proofs.Common.{refl, sym, subst}
 use Rattle.region_words.specs.Past.{NoneOf}
 use Rattle.step_desk.specs.Numbers.{Among}
 use Rattle.step_desk.specs.Steps.{M}

@@ -1,4 +1,3 @@
-use Rattle.std.proofs.Common.{rules}
 use Rattle.step_desk.proofs.Peeking.{peek_goes, sequence_told}
 use Rattle.step_desk.proofs.seat.SeatShare.peek_sequence.Goals as goal
 

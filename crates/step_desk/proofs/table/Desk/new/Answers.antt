@@ -1,4 +1,4 @@
-use Rattle.std.proofs.Common.{rules, ℕ, ◌≡◌, ◌<◌, ◌^◌, [], ◌∷◌, List, Option, Some, sym, ◌∙◌, subst}
+use Rattle.std.proofs.Common.{rules, ◌≡◌, ◌<◌, ◌^◌, [], ◌∷◌, List, Option, Some, sym, subst}
 use Rattle.atomic_table.specs.Table.{opening}
 use Rattle.region_words.specs.Local.{Local, Seated, IsLocal}
 use Rattle.step_desk.specs.Mirrors.{checksum_after, sequence_after}
