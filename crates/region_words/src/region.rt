@@ -160,8 +160,8 @@ impl LocalRegion {
         Ok(())
     }
 
-    // For proofs: what is true of every region in memory.
-    pub(crate) fn good(&self)
+    /// What is true of every region in memory: its journal is lawful, and its accounts agree with the journal.
+    pub fn good(&self)
         ensures { IsLocal self.now }
     {
         let _ = &self.kept;

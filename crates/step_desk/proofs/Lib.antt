@@ -1,0 +1,11 @@
+pub mod Lists
+pub mod Views
+pub mod Moves
+pub mod Passing
+pub mod Turning
+pub mod Keeping
+pub mod Closing
+pub mod Carrying
+pub mod Called
+pub mod Sharing
+pub mod Peeking

@@ -1,0 +1,77 @@
+-- Calls on a seat that don't reach the region: peeks, and those that were refused the turn.
+use Rattle.std.proofs.Common.{◌≡◌, ℕ, true, false, [], ◌++◌, refl, sym, ◌∙◌, ap, subst, ◌||◌, not}
+use Rattle.atomic_table.specs.Seated.{TableId}
+use Rattle.region_words.specs.Region.{record_of}
+use Rattle.region_words.specs.Past.{region_after}
+use Rattle.region_words.specs.Outside.{one_more}
+use Rattle.region_words.specs.Share.{Goes, IsTurnedAway, Stops, loaded}
+use Rattle.region_words.specs.declared.stops.ShareStop.{ShareStop}
+use Rattle.region_words.specs.declared.stops.ShareStop.TheVariants.{Turn}
+use Rattle.region_words.proofs.Later.{lock_others, died_others}
+use Rattle.step_desk.specs.declared.counts.CallCounts.{CallCounts}
+use Rattle.step_desk.specs.Mirrors.{checksum_after, sequence_after}
+use Rattle.step_desk.specs.Rule.{is_admitted}
+use Rattle.step_desk.specs.Steps.{M, having_seen, Looked}
+use Rattle.step_desk.specs.Passes.{IsKnown, PassIs, PassState, share_of, state_of, counts_of, counts_after_stop}
+use Rattle.step_desk.proofs.Keeping.{known_later}
+use Rattle.step_desk.proofs.Called.{is_sound}
+
+not_alone : false ≡ true → ⊥
+not_alone e = cc
+
+-- a call that was refused the turn
+turned : (k : PassState) (c' : CallCounts) → IsKnown k.view → c' ≡ counts_after_stop Turn k.counts → IsTurnedAway (state_of k) (share_of k.table k.view c')
+turned k c' known is = record {
+  after = record {
+    same = record { who = refl; alone = refl; turnless = refl; fails = refl; tag = refl; admitted = λ w. refl; reserved = λ w apart. refl; room = λ w apart. refl };
+    holds = refl;
+    ended = refl;
+    places = refl;
+    room = refl;
+    counts = ap counts_of is;
+    calls = λ alone. absurd (not_alone alone);
+    told = record { start = refl; others = []; by_others = tt; none = λ alone. refl; past = refl };
+    sound = is_sound k.table k.view c' known;
+  };
+  takes_turns = refl;
+}
+
+pub turned_stop : (me new : M) (k : PassState) (who number : ℕ) (here table : TableId) (counts c' : CallCounts) (stop : ShareStop) → ◌≡◌ {A = PassState} (record { table = here; view = me.0; counts = counts }) k → PassIs me who number →
+    table ≡ here → new ≡ me → stop ≡ Turn → c' ≡ counts_after_stop stop counts → Stops stop (state_of k) (share_of table new.0 c')
+turned_stop me new k who number here table counts c' stop is pass same view turn counted =
+    subst (λ (s : ShareStop). Stops s (state_of k) (share_of table new.0 c')) (sym turn)
+    (subst (λ (q : PassState). IsTurnedAway (state_of q) (share_of table new.0 c')) is
+    (subst (λ (t : TableId × M). IsTurnedAway (share_of here me.0 counts) (share_of t.0 t.1.0 c')) (λ i. (sym same i, sym view i))
+    (turned (record { table = here; view = me.0; counts = counts }) c' pass.known (counted ∙ ap (λ s. counts_after_stop s counts) turn))))
+
+-- a peek
+module _ (me new : M) (k : PassState) (who number : ℕ) (here table : TableId) (counts c' : CallCounts) (is : ◌≡◌ {A = PassState} (record { table = here; view = me.0; counts = counts }) k) (pass : PassIs me who number) (l : Looked me new) where
+  peeked : c' ≡ record counts { loads = one_more counts.loads } → Goes (loaded (share_of here me.0 counts)) (share_of here me.0 counts) (share_of here (having_seen me.0 (l.later ++ me.0.seen)) c')
+  peeked counted = record {
+    after = record {
+      same = record { who = refl; alone = refl; turnless = refl; fails = refl; tag = refl; admitted = λ w. refl; reserved = λ w apart. refl; room = λ w apart. refl };
+      holds = lock_others me.0.about.start l.later me.0.seen me.0.who l.lawful l.others;
+      ended = ap (λ d. not (is_admitted me.0.about me.0.who) || d) (died_others l.later me.0.seen me.0.who l.others);
+      places = refl;
+      room = refl;
+      counts = ap counts_of counted;
+      calls = λ alone. absurd (not_alone alone);
+      told = record { start = refl; others = l.later; by_others = l.others; none = λ alone. absurd (not_alone alone); past = refl };
+      sound = is_sound here (having_seen me.0 (l.later ++ me.0.seen)) c' (known_later me.0 l.later pass.known l.others l.lawful);
+    };
+    not_due = λ alone due. not_alone alone;
+  }
+
+  pub peek_goes : table ≡ here → c' ≡ record counts { loads = one_more counts.loads } → Goes (loaded (state_of k)) (state_of k) (share_of table new.0 c')
+  peek_goes same counted =
+      subst (λ (q : PassState). Goes (loaded (state_of q)) (state_of q) (share_of table new.0 c')) is
+      (subst (λ (t : TableId × M). Goes (loaded (share_of here me.0 counts)) (share_of here me.0 counts) (share_of t.0 t.1.0 c')) (λ i. (sym same i, sym l.view i)) (peeked counted))
+
+-- the words that were peeked at are those of the journal that the seat then tells
+pub checksum_told : (me new : M) (x : ℕ) → Looked me new → x ≡ checksum_after me.0.about.start new.0.seen → x ≡ (record_of (region_after new.0.about.start new.0.seen)).checksum
+unfolding checksum_after
+checksum_told me new x l is = is ∙ ap (λ (m : M). (record_of (region_after m.0.about.start new.0.seen)).checksum) (sym l.view)
+
+pub sequence_told : (me new : M) (x : ℕ) → Looked me new → x ≡ sequence_after me.0.about.start new.0.seen → x ≡ (record_of (region_after new.0.about.start new.0.seen)).sequence
+unfolding sequence_after
+sequence_told me new x l is = is ∙ ap (λ (m : M). (record_of (region_after m.0.about.start new.0.seen)).sequence) (sym l.view)

@@ -1,0 +1,38 @@
+use Rattle.std.proofs.Common.{rules, ◌∙◌, ap, subst}
+use Rattle.step_desk.specs.Passes.{IsKnown, PassState}
+use Rattle.step_desk.proofs.Carrying.{from_taken, ended_is, lock_is}
+use Rattle.step_desk.proofs.Sharing.{back, done, call_made, moved_try, ok_tried, stops_trying}
+use Rattle.step_desk.proofs.seat.SeatShare.try_lock.Goals as goal
+
+pub try_lock-outcome-requires-clause-alive : goal.try_lock-outcome-requires-clause-alive
+try_lock-outcome-requires-clause-alive c =
+    let is = ap (λ (k : PassState). k.view) c.self.view_is in
+    ended_is c.args.self.now.view c.in_ok-taken.taken.region (subst IsKnown is c.self.invariant.1.known) (from_taken _ _ _ _ is c.in_ok-taken.ensures.ok) ∙ c.requires.alive
+
+pub try_lock-outcome-requires-clause-free : goal.try_lock-outcome-requires-clause-free
+try_lock-outcome-requires-clause-free c =
+    let is = ap (λ (k : PassState). k.view) c.self.view_is in
+    lock_is c.args.self.now.view c.in_ok-taken.taken.region (subst IsKnown is c.self.invariant.1.known) (from_taken _ _ _ _ is c.in_ok-taken.ensures.ok) ∙ c.requires.free
+
+pub put-requires-clause-holds : goal.put-requires-clause-holds
+put-requires-clause-holds c =
+    let is = ap (λ (k : PassState). k.view) c.self.view_is in
+    back c.self.inside.hand.token.me c.take.new.hand.token.me c.args.self.now.view c.in_ok-taken.taken.region c.try_lock-outcome.new.self _ _ is c.self.invariant.1 c.in_ok-taken.ensures.ok
+    (moved_try _ _ c.try_lock-outcome.result c.args.kind c.try_lock-outcome.ensures.ok c.try_lock-outcome.ensures.err)
+
+pub invariant_of-self-2 : goal.invariant_of-self-2
+invariant_of-self-2 c = (
+  search rules,
+  done c.self.inside.hand.token.me c.take.new.hand.token.me c.put.new.hand.token.me c.in_ok-taken.taken.region c.try_lock-outcome.new.self _ _ _ _ c.self.invariant.1 c.in_ok-taken.ensures.ok
+      (moved_try _ _ c.try_lock-outcome.result c.args.kind c.try_lock-outcome.ensures.ok c.try_lock-outcome.ensures.err) c.put.ensures.given (search rules) c.put.ensures.made,
+)
+
+pub returns-clause-ok : goal.returns-clause-ok
+returns-clause-ok c =
+    let m = call_made c.self.inside.hand.token.me c.take.new.hand.token.me c.put.new.hand.token.me c.args.self.now c.in_ok-taken.taken.region c.try_lock-outcome.new.self _ _ c.self.inside.hand.token.table_id c.put.new.hand.token.table_id c.self.inside.hand.counts c.self.view_is c.self.invariant.1 c.in_ok-taken.ensures.ok c.put.ensures.given (search rules) in
+    ok_tried _ _ _ _ _ m c.put.new.hand.counts c.after_try-self-inside.result (search rules) c.try_lock-outcome.result c.args.kind c.after_try-self-inside.ensures.ok c.try_lock-outcome.ensures.ok
+
+pub returns-clause-err : goal.returns-clause-err
+returns-clause-err c =
+    let m = call_made c.self.inside.hand.token.me c.take.new.hand.token.me c.put.new.hand.token.me c.args.self.now c.in_ok-taken.taken.region c.try_lock-outcome.new.self _ _ c.self.inside.hand.token.table_id c.put.new.hand.token.table_id c.self.inside.hand.counts c.self.view_is c.self.invariant.1 c.in_ok-taken.ensures.ok c.put.ensures.given (search rules) in
+    stops_trying _ _ _ _ _ m c.put.new.hand.counts c.after_try-self-inside.result (search rules) c.try_lock-outcome.result c.args.kind c.after_try-self-inside.ensures.err c.try_lock-outcome.ensures.err
