@@ -30,6 +30,6 @@ other_words bytes first filled word value other shown apart =
     let same_test = ap (λ n. nat_le first other && nat_le (4 * (other - first) + 4) (min filled n)) (length-with_word bytes (word - first) value inside) in
     ap (λ b. if b then Some (word_at stored (other - first)) else None) same_test
     ∙ agree (shows_in first filled bytes other) (word_at stored (other - first)) (word_at bytes (other - first))
-        (λ seen.
-            other_word bytes (word - first) value inside (other - first)
-                (λ same. apart (omega (arith, same, begins first filled bytes other seen, begins first filled bytes word shown))))
+    (λ seen.
+    other_word bytes (word - first) value inside (other - first)
+    (λ same. apart (omega (arith, same, begins first filled bytes other seen, begins first filled bytes word shown))))

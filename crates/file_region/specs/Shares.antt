@@ -11,6 +11,10 @@ abbrev pub kept_under : Option LockKind → ℕ → ℕ
 kept_under (Some Exclusive) n = n
 kept_under _ n = 0
 
+-- nothing is held or reserved, and nothing was counted
+abbrev pub fresh : Ledger
+fresh = record { lock = None; ended = false; places = 0; room = 0; faults = 0; loads = 0; busy = 0 }
+
 -- opener 1, which isn't alone and takes no turns; nothing is told of the files, nor of when a call is to fail
 abbrev pub share_state : Ledger → ShareState
 share_state l =

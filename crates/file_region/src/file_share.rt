@@ -1,7 +1,6 @@
 // Real files, as a share.
-ghost use Rattle.std.specs.Prelude.{◌≡◌, IfOk, [], false, None};
+ghost use Rattle.std.specs.Prelude.{◌≡◌, IfOk};
 ghost use Rattle.region_words.specs.Share.{Fails};
-ghost use Rattle.file_region.specs.Shares.{share_state};
 
 use crate::ledger::Ledger;
 use crate::shared_file::SharedFile;
@@ -51,12 +50,11 @@ pub struct FileShare<F: SharedFile> {
 }
 
 impl<F: SharedFile> FileShare<F> {
-    ghost use Rattle.file_region.specs.Shares.{share_state};
+    ghost use Rattle.file_region.specs.Shares.{fresh, share_state};
 
     /// A share over two open files. It holds nothing.
     pub fn new(alloc: Global, data: F, meta: F) -> Result<FileShare<F>, AllocError>
-        ensures alive { IfOk result (λ share. (share_state share.ledger).ended ≡ false) }
-        ensures free { IfOk result (λ share. (share_state share.ledger).holds ≡ None) }
+        ensures { IfOk result (λ share. share.ledger ≡ fresh) }
     {
         Ok(FileShare {
             files: StoreFiles::new(alloc, data, meta)?,
@@ -72,8 +70,7 @@ impl<F: SharedFile> FileShare<F> {
         meta: &str,
         create: bool,
     ) -> Result<FileShare<F>, OpenStop>
-        ensures alive { IfOk result (λ share. (share_state share.ledger).ended ≡ false) }
-        ensures free { IfOk result (λ share. (share_state share.ledger).holds ≡ None) }
+        ensures { IfOk result (λ share. share.ledger ≡ fresh) }
     {
         let data = open_within(rt, data, create, LARGEST_DATA)?;
         let meta = open_within(rt, meta, true, LARGEST_META)?;

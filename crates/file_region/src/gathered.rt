@@ -59,7 +59,7 @@ impl Gathered {
 
     fn begin(&mut self, word: u32, value: u32)
         requires { self.old.words ≡ [] }
-        ensures { stores_of self.new ≡ (word , value) ∷ [] }
+        ensures { stores_of self.new ≡ (word, value) ∷ [] }
     {
         self.first = word;
         self.words.push_reserved(value);

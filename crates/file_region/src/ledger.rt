@@ -1,7 +1,4 @@
 // What a share of real files knows of itself.
-ghost use Rattle.std.specs.Prelude.{◌≡◌, None, Some, false};
-ghost use Rattle.region_words.specs.Outside.{one_more};
-
 use lock_rules::LockKind;
 
 /// The lock that is held, whether the opener is dead, what is reserved, and the counts.
@@ -17,9 +14,13 @@ pub struct Ledger {
 }
 
 impl Ledger {
+    ghost use Rattle.std.specs.Prelude.{◌≡◌, None, Some};
+    ghost use Rattle.region_words.specs.Outside.{one_more};
+    ghost use Rattle.file_region.specs.Shares.{fresh};
+
     /// Nothing is held or reserved, and nothing was counted.
     pub fn new() -> Ledger
-        ensures { result ≡ record { lock = None; ended = false; places = 0; room = 0; faults = 0; loads = 0; busy = 0 } }
+        ensures { result ≡ fresh }
     {
         Ledger {
             lock: None,

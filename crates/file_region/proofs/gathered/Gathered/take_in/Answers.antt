@@ -13,9 +13,9 @@ pub returns-clause-stores : goal.returns-clause-stores
 returns-clause-stores c =
     let g = c.self.inside in
     let next : g.first + length g.words.items ≡ c.args.word =
-        ap (λ run. run.first + length run.words) c.self.view_is
-        ∙ grind (arith, nat_tests, c.is_next.ensures, c.if-not-is_next.false) in
+    ap (λ run. run.first + length run.words) c.self.view_is
+    ∙ grind (arith, nat_tests, c.is_next.ensures, c.if-not-is_next.false) in
     ap (placed g.first) c.push_reserved.ensures.items
     ∙ placed-append g.first g.words.items c.args.value
-    ∙ ap (λ n. placed g.first g.words.items ++ (n , c.args.value) ∷ []) next
-    ∙ ap (λ stores. stores ++ (c.args.word , c.args.value) ∷ []) (ap stores_of c.self.view_is)
+    ∙ ap (λ n. placed g.first g.words.items ++ (n, c.args.value) ∷ []) next
+    ∙ ap (λ stores. stores ++ (c.args.word, c.args.value) ∷ []) (ap stores_of c.self.view_is)
