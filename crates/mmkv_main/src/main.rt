@@ -1,19 +1,13 @@
 //! The program `mmkv`: a command over the stores of a directory.
 #![tactic(auto)]
 
-mod dir_shelf;
-mod std_sink;
-mod std_source;
-mod tries;
 mod words;
 
 ghost use Rattle.std.specs.Prelude.{◌≡◌, [], All, OnOk};
 
-use crate::dir_shelf::DirShelf;
-use crate::std_sink::StdSink;
-use crate::std_source::StdSource;
 use crate::words::words;
 use expiring_map::Bytes;
+use file_region::{DirShelf, StdSink, StdSource};
 use handlers::{Handler, HandlerStock, Steady, Strategy};
 use mmkv_top::{most_openers, run};
 use std::alloc::AllocError;

@@ -2,7 +2,7 @@
 ghost use Rattle.std.specs.Prelude.{◌≡◌, ◌≢◌, ℕ, ◌≤◌, ◌∷◌, ◌++◌, Ok, None, length, OnOk, IfOk, IfErr, IfSome, IsOk};
 ghost use Rattle.region_words.specs.Outside.{Rose, one_more};
 ghost use Rattle.region_words.specs.Stores.{Untold};
-ghost use Rattle.mmkv_main.specs.Stopped.{IsStopped};
+ghost use Rattle.file_region.specs.Stopped.{IsStopped};
 
 use expiring_map::Bytes;
 use region_words::{Brought, LARGEST_DATA, LARGEST_META, Shelf, ShelfStop};
