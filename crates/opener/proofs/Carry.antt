@@ -294,17 +294,16 @@ told_call o s t left E P tied after learned follows =
 
 -- the share is tied to the opener that is left
 pub tied_after : (o next : OpenerState) (s t : ShareState) (left : Left) (E : Region → List Event → Type 0) → Tied o s → After left s t → next.who ≡ o.who →
-    left.ended ≡ is_ended next.work → next.handled ≡ not (is_ended next.work) → left.holds ≡ lock_in next.holds next.work → next.holds ≤ 1000 → OnImage next.image IsSoundImage → IsAt next next.work → Owes next next.work t →
+    left.ended ≡ is_ended next.work → left.holds ≡ lock_in next.holds next.work → next.holds ≤ 1000 → OnImage next.image IsSoundImage → IsAt next next.work → Owes next next.work t →
     OnTold t.told (λ k. E k.start k.past) →
     ((start : Region) (past : List Event) → IsRegion start → Lawful start (made_by s.who left.own ++ past) → lock_after past s.who ≡ s.holds → Facts o start past →
     E start (made_by s.who left.own ++ past) → Facts next start (made_by s.who left.own ++ past)) →
     Tied next t
-tied_after o next s t left E tied after who ended handled holds deep sound at owes learned follows =
+tied_after o next s t left E tied after who ended holds deep sound at owes learned follows =
     record {
       who = after.same.who ∙ tied.who ∙ sym who;
       maker = subst (λ w. (1 ≤ w) × (w ≤ 64)) (sym who) tied.maker;
       ended = after.ended ∙ ended;
-      handled = handled;
       holds = after.holds ∙ holds;
       deep = deep;
       sound = sound;

@@ -43,7 +43,7 @@ module _ (o : OpenerState) (running : Running) (s t : ShareState) (goes : Goes (
       let none = free (end.Answer place reply) tied in
       subst (λ (n : OpenerState). Tied n t) (sym is.1)
       (tied_after (running_as o running (stage.Unlock (end.Answer place reply))) (record o { work = Idle }) s t (unlocked_by s) (λ start past. ⊤) tied goes.after refl
-      tied.ended tied.handled (sym none) tied.deep tied.sound tt (none_reserved s t (unlocked_by s) goes.after refl) (nothing_told t.told)
+      tied.ended (sym none) tied.deep tied.sound tt (none_reserved s t (unlocked_by s) goes.after refl) (nothing_told t.told)
       (λ start past region lawful lock facts e. record {
         image = image_later o.image start (event_of s.who Unlock ∷ []) past lawful facts.image;
         rests = λ held. let both = sym none ∙ held in absurd cc;
@@ -53,7 +53,7 @@ module _ (o : OpenerState) (running : Running) (s t : ShareState) (goes : Goes (
       let none = free (end.Stop why) tied in
       subst (λ (n : OpenerState). Tied n t) (sym is.1)
       (tied_after (running_as o running (stage.Unlock (end.Stop why))) (record o { image = None; work = Idle }) s t (unlocked_by s) (λ start past. ⊤) tied goes.after refl
-      tied.ended tied.handled (sym none) tied.deep tt tt (none_reserved s t (unlocked_by s) goes.after refl) (nothing_told t.told)
+      tied.ended (sym none) tied.deep tt tt (none_reserved s t (unlocked_by s) goes.after refl) (nothing_told t.told)
       (λ start past region lawful lock facts e. record { image = tt; rests = λ held. let both = sym none ∙ held in absurd cc; work = tt }))
 
   pub unlocked_place : (how : End) (ended : ℕ) (result : Step) (new : OpenerState) → Tied (running_as o running (stage.Unlock how)) s → ended ≡ changes_told t.told →

@@ -251,7 +251,7 @@ module _ (o : OpenerState) (running next : Running) (r b a : Making) (map : Map)
   followed_tied =
       let same = lock.same in
       let held : lock_by o.holds next.taken ≡ lock_by o.holds running.taken = ap (lock_by o.holds) lock.taken in
-      tied_after (running_as o running (stage.Store (Rewrite r (Some a) map))) (running_as o next (stage.Store (Append a map))) s t (stored first s) (IsFollowed o.who change a map) tied after refl tied.ended tied.handled
+      tied_after (running_as o running (stage.Store (Rewrite r (Some a) map))) (running_as o next (stage.Store (Append a map))) s t (stored first s) (IsFollowed o.who change a map) tied after refl tied.ended
       (tied.holds ∙ sym held) tied.deep tied.sound
       ((λ some. lock.taken ∙ tied.at.0 some), subst CanWrite (sym same.call) tied.at.1, (held ∙ tied.at.2.0, (subst (λ (k : Making). k.events ≢ []) (sym a_is) (append_some b.standing change), tied.at.2.1.4)))
       followed_owes followed

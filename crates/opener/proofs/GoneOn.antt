@@ -135,7 +135,7 @@ module _ (o : OpenerState) (running next : Running) (old : PartialLoad) (result 
   going_steps now going kept map one most within told on =
       let image : kept_image now.map now ≡ kept_image old.map old = λ j. record { standing = kept j; map = map j } in
       loads_on tied (λ stored none. none) o next (Continue now) refl goes more tt (λ looks. (refl, λ j. Some (image j))) (λ has. counts has (omega (arith, one, most)) ∙ omega (arith, one)) on refl (λ so_far are. are)
-      (tied_after (running_as o running (Continue old)) (running_as o next (Continue now)) s t (loaded s) (λ start past. HasLoadedPart now (region_after start past)) tied goes.after refl tied.ended tied.handled
+      (tied_after (running_as o running (Continue old)) (running_as o next (Continue now)) s t (loaded s) (λ start past. HasLoadedPart now (region_after start past)) tied goes.after refl tied.ended
       (tied.holds ∙ lock) tied.deep tied.sound
       ((λ some. same.taken ∙ tied.at.0 some), subst IsPlain (sym same.same.call) tied.at.1, (going, (λ none. tied.at.2.1 (lock ∙ none)), looks_next, subst IsSoundImage (sym image) tied.at.2.3, tied.at.2.4))
       (none_reserved s t (loaded s) goes.after tied.owes) told
@@ -175,7 +175,6 @@ module _ (o : OpenerState) (running next : Running) (old : PartialLoad) (result 
         lock = refl;
         places = tied.owes;
         who = refl;
-        handled = refl;
         holds = refl;
         sound = sound;
         taken = same.taken;

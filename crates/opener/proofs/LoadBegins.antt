@@ -53,7 +53,7 @@ module _ (o : OpenerState) (running next : Running) (stage : Stage) (s t : Share
     (same : SameCall running next) (may : MayLoad o running next stage s left) where
   pub whole_tied : (loading : Loading) → IsFresh loading → Tied (running_as o next (Load loading)) t
   whole_tied loading fresh =
-      tied_after (running_as o running stage) (running_as o next (Load loading)) s t left (λ start past. ⊤) tied after refl may.alive tied.handled may.lock tied.deep tied.sound
+      tied_after (running_as o running stage) (running_as o next (Load loading)) s t left (λ start past. ⊤) tied after refl may.alive may.lock tied.deep tied.sound
       (may.own, may.plain, (fresh.going, may.held, may.looks)) (none_reserved s t left after may.places) (nothing_told t.told)
       (λ start past region lawful lock facts e. record {
         image = image_later o.image start (made_by s.who left.own) past lawful facts.image;
@@ -63,7 +63,7 @@ module _ (o : OpenerState) (running next : Running) (stage : Stage) (s t : Share
 
   pub part_tied : (i : Image) → o.image ≡ Some i → Tied (record (running_as o next (Continue (going_on_from i))) { image = None }) t
   part_tied i kept =
-      tied_after (running_as o running stage) (record (running_as o next (Continue (going_on_from i))) { image = None }) s t left (λ start past. ⊤) tied after refl may.alive tied.handled may.lock tied.deep tt
+      tied_after (running_as o running stage) (record (running_as o next (Continue (going_on_from i))) { image = None }) s t left (λ start past. ⊤) tied after refl may.alive may.lock tied.deep tt
       (may.own, may.plain, (record { lacking = tt }, may.held, may.looks, subst (λ k. OnImage k IsSoundImage) kept tied.sound, refl)) (none_reserved s t left after may.places) (nothing_told t.told)
       (λ start past region lawful lock facts e.
       let image = subst (λ k. ImageIs k start (made_by s.who left.own ++ past)) kept (image_later o.image start (made_by s.who left.own) past lawful facts.image) in

@@ -100,7 +100,7 @@ module _ (o : OpenerState) (running : Running) (plan : Plan) (s t : ShareState) 
   -- the stores are next
   pub reserved_tied : Goes (reserving (counted (events_in plan)) (room_in plan) s) s t → Tied (running_as o running (stage.Store plan)) t
   reserved_tied goes =
-      tied_after (running_as o running (stage.Reserve plan)) (running_as o running (stage.Store plan)) s t (reserving (counted (events_in plan)) (room_in plan) s) (λ start past. ⊤) tied goes.after refl tied.ended tied.handled
+      tied_after (running_as o running (stage.Reserve plan)) (running_as o running (stage.Store plan)) s t (reserving (counted (events_in plan)) (room_in plan) s) (λ start past. ⊤) tied goes.after refl tied.ended
       tied.holds tied.deep tied.sound (tied.at.0, tied.at.1, (tied.at.2.0, tied.at.2.2)) (reserved_owes goes) (nothing_told t.told)
       (λ start past region lawful lock facts e. record {
         image = facts.image;
@@ -118,7 +118,7 @@ module _ (o : OpenerState) (running : Running) (plan : Plan) (s t : ShareState) 
   module _ (goes : Goes (unmoved s) s t) where
     pub unreserved_leaving : IsPlain running.call → Leaving o o running running s t
     unreserved_leaving plain =
-        record { left = unmoved s; after = goes.after; alive = refl; lock = refl; places = tied.owes; who = refl; handled = refl; holds = refl; sound = tied.sound; taken = refl; plain = plain }
+        record { left = unmoved s; after = goes.after; alive = refl; lock = refl; places = tied.owes; who = refl; holds = refl; sound = tied.sound; taken = refl; plain = plain }
 
     pub unreserved_left : (why : Stop) → OnTold t.told (λ k. LeftWith None o running (end.Stop why) k.start k.past)
     unreserved_left why =

@@ -134,7 +134,7 @@ pub stored_tied : (o : OpenerState) (running next : Running) (plan : Plan) (b : 
 stored_tied o running next plan b s t tied lock (first, is, goes) stands some owing =
     let same = lock.same in
     let held : lock_by o.holds next.taken ≡ lock_by o.holds running.taken = ap (lock_by o.holds) lock.taken in
-    tied_after (running_as o running (Store plan)) (running_as o next (Store (with_making plan b))) s t (stored first s) (λ start past. ⊤) tied goes.after refl tied.ended tied.handled (tied.holds ∙ sym held) tied.deep tied.sound
+    tied_after (running_as o running (Store plan)) (running_as o next (Store (with_making plan b))) s t (stored first s) (λ start past. ⊤) tied goes.after refl tied.ended (tied.holds ∙ sym held) tied.deep tied.sound
     ((λ some. lock.taken ∙ tied.at.0 some), subst CanWrite (sym same.call) tied.at.1, (held ∙ tied.at.2.0, sound_on o.who running next same b first plan stands some tied.at.2.1))
     (owes_on o.who running next same b first plan s t is stands goes.after owing tied.owes) (nothing_told t.told)
     (λ start past region lawful mine facts e. record {

@@ -196,7 +196,6 @@ module _ (o : OpenerState) (running next : Running) (plan : Plan) (b : Making) (
         lock = refl;
         places = last_place;
         who = refl;
-        handled = refl;
         holds = refl;
         sound = subst (λ z. IsSoundImage (record { standing = z; map = m })) (sym stands) (last.sound tied.at.2.1);
         taken = lock.taken;

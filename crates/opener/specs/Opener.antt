@@ -251,12 +251,11 @@ abbrev pub Owes : OpenerState → Work → ShareState → Type 0
 Owes o (Runs running (Store plan)) s = OwesPlan o.who running plan s
 Owes o _ s = s.reserved s.who ≡ 0
 
--- the share stands as the opener's last call left it; until its end the opener has its handler
+-- the share stands as the opener's last call left it
 pub record Tied (o : OpenerState) (s : ShareState) : Type 0 where
   pub who : s.who ≡ o.who
   pub maker : (1 ≤ o.who) × (o.who ≤ MOST_OPENERS)
   pub ended : s.ended ≡ is_ended o.work
-  pub handled : o.handled ≡ not (is_ended o.work)
   pub holds : s.holds ≡ lock_in o.holds o.work
   pub deep : o.holds ≤ MOST_HOLDS
   pub sound : OnImage o.image IsSoundImage
