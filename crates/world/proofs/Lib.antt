@@ -5,3 +5,4 @@ pub mod Together
 pub mod Turns
 pub mod Fresh
 pub mod Loaded
+pub mod Handed

@@ -40,7 +40,7 @@ loads_of w who = (account_of w.region.accounts who).loads
 
 -- an opener of this number that has made no call
 abbrev pub new_opener : ℕ → OpenerState
-new_opener who = record { who = who; handled = true; image = None; holds = 0; work = Idle }
+new_opener who = record { who = who; image = None; holds = 0; work = Idle }
 
 -- an opener was opened, with the next number, and has made no call
 pub record Opens (who : ℕ) (old new : WorldState) : Type 0 where

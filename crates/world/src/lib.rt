@@ -7,6 +7,7 @@ mod moves;
 mod openers;
 mod stops;
 mod world;
+mod world_core;
 
 pub use laws::answers_count_loads_that_were_made;
 pub use moves::Moved;

@@ -7,21 +7,21 @@ use Rattle.world.proofs.Turns.{Made, held_kept, moves_by, room_after, room_for, 
 use Rattle.world.proofs.openers.step_at.Goals as goal
 
 pub step-came-requires : goal.step-came-requires
-step-came-requires g c =
+step-came-requires c =
     let items = c.args.openers.now.items in
     let o = c.index_mut.result.now in
     let at : slice_get items c.args.place ≡ Some o = slice_get_read items (length items) c.args.place o (λ i. length items) (omega (arith, c.requires.inside, c.args.openers.now.ok.0)) c.index_mut.ensures.value in
     seated c.args.seat.now.region c.turn_to.new.self items c.args.answers.now.items c.args.place o c.requires.world at c.turn_to.ensures
 
 pub said-requires-clause-room : goal.said-requires-clause-room
-said-requires-clause-room g c =
+said-requires-clause-room c =
     let items = c.args.openers.now.items in
     let o = c.index_mut.result.now in
     let at : slice_get items c.args.place ≡ Some o = slice_get_read items (length items) c.args.place o (λ i. length items) (omega (arith, c.requires.inside, c.args.openers.now.ok.0)) c.index_mut.ensures.value in
     room_for items _ c.args.place o c.step-came.new.self c.step-came.result (vec_capacity c.args.answers.now) at c.step-came.ensures.call c.requires.room
 
 pub returns-clause-world : goal.returns-clause-world
-returns-clause-world g c =
+returns-clause-world c =
     let items = c.args.openers.now.items in
     let o = c.index_mut.result.now in
     let at : slice_get items c.args.place ≡ Some o = slice_get_read items (length items) c.args.place o (λ i. length items) (omega (arith, c.requires.inside, c.args.openers.now.ok.0)) c.index_mut.ensures.value in
@@ -31,7 +31,7 @@ returns-clause-world g c =
     (world_after c.args.seat.now.region c.turn_to.new.self c.step-came.new.share items c.args.answers.now.items c.args.place o c.step-came.new.self c.step-came.result c.requires.world at c.turn_to.ensures made)
 
 pub returns-clause-room : goal.returns-clause-room
-returns-clause-room g c =
+returns-clause-room c =
     let items = c.args.openers.now.items in
     let o = c.index_mut.result.now in
     let at : slice_get items c.args.place ≡ Some o = slice_get_read items (length items) c.args.place o (λ i. length items) (omega (arith, c.requires.inside, c.args.openers.now.ok.0)) c.index_mut.ensures.value in
@@ -42,7 +42,7 @@ returns-clause-room g c =
     omega (arith, room, ap length c.said.ensures.answers, c.said.new.answers.ok.0, c.said.ensures.capacity)
 
 pub returns-clause-moves : goal.returns-clause-moves
-returns-clause-moves g c noted =
+returns-clause-moves c noted =
     let items = c.args.openers.now.items in
     let o = c.index_mut.result.now in
     let at : slice_get items c.args.place ≡ Some o = slice_get_read items (length items) c.args.place o (λ i. length items) (omega (arith, c.requires.inside, c.args.openers.now.ok.0)) c.index_mut.ensures.value in
@@ -53,7 +53,7 @@ returns-clause-moves g c noted =
     moves_by _ _ c.said.result _ _ o c.step-came.new.self c.step-came.result c.said.ensures.said (omega (arith, c.args.answers.now.ok.0)) steps
 
 pub returns-clause-held : goal.returns-clause-held
-returns-clause-held g c =
+returns-clause-held c =
     let items = c.args.openers.now.items in
     let o = c.index_mut.result.now in
     let at : slice_get items c.args.place ≡ Some o = slice_get_read items (length items) c.args.place o (λ i. length items) (omega (arith, c.requires.inside, c.args.openers.now.ok.0)) c.index_mut.ensures.value in
@@ -62,7 +62,7 @@ returns-clause-held g c =
     held_kept c.args.seat.now.region c.turn_to.new.self c.step-came.new.share items c.args.answers.now.items c.args.place o c.step-came.new.self c.step-came.result c.requires.world at c.turn_to.ensures made c.said.new.answers.items false
 
 pub returns-clause-start : goal.returns-clause-start
-returns-clause-start g c =
+returns-clause-start c =
     let items = c.args.openers.now.items in
     let o = c.index_mut.result.now in
     let at : slice_get items c.args.place ≡ Some o = slice_get_read items (length items) c.args.place o (λ i. length items) (omega (arith, c.requires.inside, c.args.openers.now.ok.0)) c.index_mut.ensures.value in
