@@ -19,6 +19,7 @@ use Rattle.opener.specs.declared.work.Stage.TheVariants as stage
 use Rattle.opener.specs.declared.work.Work.TheVariants.{Idle, Runs}
 use Rattle.opener.proofs.Carry.{changes_are, end_later, image_later, none_or_some, none_reserved, own_if, taken_held, tied_after, told_call, words_later}
 use Rattle.opener.proofs.Leaves.{is_answer}
+use Rattle.opener.proofs.StoresNext.{finishes_stores}
 use Rattle.opener.proofs.Stopped.{nothing_told}
 use Rattle.opener.specs.Steps.{IsPlaceOf, KeepsImage, Steps}
 use Rattle.opener.proofs.Added.{adds_quietly, unlock_quietly}
@@ -111,6 +112,7 @@ unlocks {o} {running} {how} {result} {new} {s} {t} tied ended goes is count =
       acts = finishes_acts (stage.Unlock how) o.image running how ended o result new s t (end_acts how (stage.Unlock how) o.image new.work s t (λ a. tt)) is;
       answer = unlocked_answer o running s t goes how ended result new tied count is;
       place = unlocked_place o running s t goes how ended result new tied count is;
+      stores = finishes_stores (stage.Unlock how) running how ended o result new is;
       image = unlocked_image o running s t goes how ended result new tied is;
       counts = λ has. unlocked_counted o.who running how ended o result new has is;
       falls = finishes_falls running running (stage.Unlock how) how ended o result new t is;

@@ -148,6 +148,7 @@ module _ (o : OpenerState) (running next : Running) (old : PartialLoad) (result 
         falls = λ words known. omega (arith, one, within, known);
         met = told_map t.told (λ h. HasLoadedPart now (region_after h.start h.past)) (λ h. now.file_size ≤ file_size (region_after h.start h.past)) (λ h has. has.file) told;
       })
+      tt
 
   -- it doesn't hold, and a full load begins
   pub fails_steps : LoadFails old t → BeginsLoad Full next o result new → Steps o running (Continue old) result new s t
@@ -164,7 +165,7 @@ module _ (o : OpenerState) (running next : Running) (old : PartialLoad) (result 
         looks = looks_next;
         rests = λ start past lawful facts held apart. facts.rests (lock ∙ held) refl apart;
       }) loading fresh)
-      (plainly_shorter _ _ t refl (λ words. omega arith))
+      (plainly_shorter _ _ t refl (λ words. omega arith)) tt
 
   leaving : (image : Option Image) → OnImage image IsSoundImage → Leaving o (record o { image = image }) running next s t
   leaving image sound =

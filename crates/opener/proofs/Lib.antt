@@ -43,3 +43,4 @@ pub mod Storing
 pub mod WriteStops
 pub mod Written
 mod RefusedRecords
+pub mod StoresNext

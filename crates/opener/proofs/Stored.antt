@@ -22,7 +22,7 @@ use Rattle.opener.specs.Ends.{lock_by}
 use Rattle.opener.specs.Opener.{Tied, running_as}
 use Rattle.loader.specs.PartialLoads.{IsSoundImage, IsSoundStanding}
 use Rattle.opener.specs.Plans.{CanWrite, events_in}
-use Rattle.opener.specs.Writes.{IsOwn, Follows, IsSoundPlan, IsRowOf, HasStanding, Leads, PlanLeads, HasMadeSoFar, OwesPlan, commits_of, commits_in, first_events, making_of}
+use Rattle.opener.specs.Writes.{IsOwn, Follows, IsSoundPlan, IsRowOf, HasStanding, Leads, PlanLeads, HasMadeSoFar, OwesPlan, commits_of, commits_in, events_of, first_events, making_of}
 use Rattle.opener.specs.declared.plan.Plan.{Plan}
 use Rattle.opener.specs.declared.plan.Plan.TheVariants.{Append, Rewrite}
 use Rattle.opener.specs.declared.work.Running.{Running}
@@ -56,6 +56,12 @@ lead_next k b m start past who first is same leads =
 -- the same call
 pub own_on : (who : ℕ) (running next : Running) (change : Change) → SameCall running next → IsOwn who running change → IsOwn who next change
 own_on who running next change same own = record { act = (λ i. act_of (same.call i) (same.now i)) ∙ own.act; maker = own.maker }
+
+-- the events that are left
+pub events_on : (b : Making) (first : What) (plan : Plan) → first_events plan ≡ first ∷ b.events → events_of plan ≡ first ∷ events_of (with_making plan b)
+events_on b first (Append a map) is = is
+events_on b first (Rewrite r None map) is = is
+events_on b first (Rewrite r (Some a) map) is = ap (λ l. l ++ a.events) is
 
 pub follows_on : (who : ℕ) (running next : Running) (s : Standing) (a : Making) (change : Change) → SameCall running next → Follows who running s a change → Follows who next s a change
 follows_on who running next s a change same f = record { own = own_on who running next change same f.own; can = f.can; is = f.is }

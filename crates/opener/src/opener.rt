@@ -15,7 +15,7 @@ ghost use Rattle.opener.specs.Quick.{IsUpToDate, IsStale, OnCold, OnFault, OnSta
 ghost use Rattle.opener.specs.Quiet.{ShowsQuietly};
 ghost use Rattle.opener.specs.Refused.{StopsWhereRefused};
 ghost use Rattle.opener.specs.Settles.{BeginsSettled, Settles};
-ghost use Rattle.opener.specs.Steps.{ActsAt, IsPlaceOf, KeepsImage, OnRunning, TakesTried, peek_of};
+ghost use Rattle.opener.specs.Steps.{ActsAt, IsPlaceOf, KeepsImage, LeavesStores, OnRunning, TakesTried, peek_of};
 ghost use Rattle.opener.specs.declared.work.Work.TheVariants.{Idle};
 
 use crate::calls::{NotBegun, Step, Stop};
@@ -77,6 +77,7 @@ impl Opener {
         ensures refused { OnRunning self.old.core.work (λ stage. StopsWhereRefused stage result self.new.core.work (S.state share.new)) }
         ensures takes { TakesTried self.old.core.work (S.state share.old) (S.state share.new) }
         ensures acts { OnRunning self.old.core.work (λ stage. ActsAt result stage self.old.core.image self.new.core.work (S.state share.old) (S.state share.new)) }
+        ensures stores { OnRunning self.old.core.work (λ stage. LeavesStores result stage self.new.core.work) }
         ensures answer { OnAnswer result (λ a. OnTold (S.state share.new).told (λ h. IsAnswer a h.start h.past)) }
         ensures place { OnRunning self.old.core.work (λ stage. OnAnswer result (λ a. OnTold (S.state share.new).told (λ h. IsPlaceOf (peek_of stage) a))) }
         ensures image { OnRunning self.old.core.work (λ stage. KeepsImage result stage self.old.core.image self.new.core (S.state share.new)) }

@@ -10,7 +10,7 @@ ghost use Rattle.opener.specs.Settles.{BeginsSettled, Settles};
 ghost use Rattle.opener.specs.Quiet.{ShowsQuietly};
 ghost use Rattle.opener.specs.Fresh.{CountedBy, CountsSoFar, HasCounted, LoadsFew, loads_counted};
 ghost use Rattle.opener.specs.Refused.{StopsWhereRefused};
-ghost use Rattle.opener.specs.Steps.{ActsAt, IsPlaceOf, KeepsImage, OnRunning, Steps, TakesTried, peek_of};
+ghost use Rattle.opener.specs.Steps.{ActsAt, IsPlaceOf, KeepsImage, LeavesStores, OnRunning, Steps, TakesTried, peek_of};
 
 use crate::calls::{NotBegun, Refused, Step, Stop};
 use crate::plan::Plan;
@@ -132,6 +132,7 @@ impl OpenerCore {
         ensures refused { OnRunning self.old.work (λ stage. StopsWhereRefused stage result self.new.work (S.state share.new)) }
         ensures takes { TakesTried self.old.work (S.state share.old) (S.state share.new) }
         ensures acts { OnRunning self.old.work (λ stage. ActsAt result stage self.old.image self.new.work (S.state share.old) (S.state share.new)) }
+        ensures stores { OnRunning self.old.work (λ stage. LeavesStores result stage self.new.work) }
         ensures answer { OnAnswer result (λ a. OnTold (S.state share.new).told (λ h. IsAnswer a h.start h.past)) }
         ensures place { OnRunning self.old.work (λ stage. OnAnswer result (λ a. OnTold (S.state share.new).told (λ h. IsPlaceOf (peek_of stage) a))) }
         ensures image { OnRunning self.old.work (λ stage. KeepsImage result stage self.old.image self.new (S.state share.new)) }

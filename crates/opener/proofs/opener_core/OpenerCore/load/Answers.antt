@@ -22,7 +22,7 @@ returns-in-Ok-Going g c =
     let same = loaded_same c.args.running _ c.with_load.ensures in
     loads_on c.requires (λ stored none. none) o _ (Load c.step.new.self) refl did.goes c.with_load.ensures (λ none ten. did.accepts (omega (arith, ten, did.loads))) (λ looks. (refl, refl)) (λ has. omega (arith, has, did.loads, ap (λ (r : Running). r.loads) c.with_load.ensures)) c.going.ensures refl (λ so_far are. are)
     (loaded_tied o _ _ c.args.loading _ _ _ c.requires same.same same.taken (rw c.in-Ok-Going.field-0-is at did.done) did.goes did.told)
-    (load_shorter _ _ _ _ _ did.loads did.bound did.answered)
+    (load_shorter _ _ _ _ _ did.loads did.bound did.answered) tt
 
 pub returns-in-Ok-Done : goal.returns-in-Ok-Done
 returns-in-Ok-Done g c =

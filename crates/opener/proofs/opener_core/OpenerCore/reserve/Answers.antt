@@ -29,7 +29,7 @@ returns-in-Ok g c =
     let exact = subst (λ n. Goes (reserving n (room_in plan) s) s t) (counted_is (events_in plan) c.requires.at.2.1.few) both in
     goes_on c.requires (λ stored none. none) o running 0 None (none_quietly (reserving c.events.result c.room.result s) c.in-Ok.ensures.ok.after refl refl refl) (λ kind is. absurd cc) (Store plan) refl
     (same_call running) (none_more running) (refl, exact) (λ looks. absurd cc) (λ has. has) c.going.ensures refl (λ so_far are. subst (λ l. AreOfCall o.who running.call running.now (l ++ commits_in plan)) (sym are) c.requires.at.2.3)
-    (reserved_tied o running plan s t c.requires both) (reserved_shorter running running t plan)
+    (reserved_tied o running plan s t c.requires both) (reserved_shorter running running t plan) refl
 
 pub returns-in-Memory : goal.returns-in-Memory
 returns-in-Memory g c =

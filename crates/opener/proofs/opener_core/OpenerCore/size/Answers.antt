@@ -19,7 +19,7 @@ returns-in-Ok-plan g c =
     let on = subst (λ (n : OpenerState). GoesOn c.with_load.result (Reserve c.in-Ok-plan.plan) n c.going.result c.going.new.self) c.plan.ensures.kept c.going.ensures in
     loads_on c.requires (λ stored none. none) (record o { image = None }) _ _ refl found.ok c.with_load.ensures tt (λ looks. absurd cc) (λ has. omega (arith, has, ap (λ (r : Running). r.loads) c.with_load.ensures)) on refl (λ so_far are. are)
     (size_tied o _ _ c.in-Ok.size _ _ c.requires same.same same.taken found.ok found.value found.pages _ c.plan.ensures.words c.in-Ok-plan.ensures.ok)
-    (size_shorter _ _ _ o c.in-Ok.size _ _ c.requires found.ok found.value found.pages c.in-Ok-plan.ensures.ok)
+    (size_shorter _ _ _ o c.in-Ok.size _ _ c.requires found.ok found.value found.pages c.in-Ok-plan.ensures.ok) tt
 
 pub returns-in-Err-plan : goal.returns-in-Err-plan
 returns-in-Err-plan g c =
