@@ -35,6 +35,7 @@ use Rattle.std.proofs.lemmas.List.Sums.{fold-append}
 use Rattle.appender.specs.Appends.{CanAppend, appending}
 use Rattle.opener.specs.State.{OpenerState}
 use Rattle.opener.specs.Ends.{lock_by}
+use Rattle.opener.proofs.UnderWay.{under_way_on}
 use Rattle.opener.specs.Opener.{Tied, Facts, running_as}
 use Rattle.loader.specs.PartialLoads.{IsSoundStanding}
 use Rattle.opener.specs.Plans.{CanWrite, events_in}
@@ -264,6 +265,7 @@ module _ (o : OpenerState) (running next : Running) (r b a : Making) (map : Map)
             e.leads,
             made_on o.who running next same b first (Rewrite r (Some a) map) (Append a map) past s.who
                 (ap (λ l. commits_of l ++ commits_of a.events) only ∙ ap (λ l. l ++ commits_of a.events) (append-nil (change_of first))) facts.work.1.1,
+            under_way_on o.who running start next same (Rewrite r (Some a) map) (Append a map) past s.who first tied.who (ap (λ l. l ++ a.events) only) facts.work.1.2,
           ),
         );
       })

@@ -44,3 +44,4 @@ pub mod WriteStops
 pub mod Written
 mod RefusedRecords
 pub mod StoresNext
+pub mod UnderWay

@@ -17,6 +17,9 @@ use Rattle.region_words.proofs.Telling.{told_and}
 use Rattle.opener.specs.State.{OpenerState}
 use Rattle.opener.specs.Calls.{IsPlain, is_write}
 use Rattle.opener.specs.Counted.{counted}
+use Rattle.opener.proofs.UnderWay.{under_way_first}
+use Rattle.region_words.specs.Past.{locks_after}
+use Rattle.region_words.specs.Share.{lock_of}
 use Rattle.opener.specs.Opener.{Tied, PlanIs, running_as}
 use Rattle.opener.specs.Plans.{CanWrite, events_in, room_in}
 use Rattle.opener.specs.Writes.{IsSoundPlan, IsRowOf, PlanStarts, OwesPlan, first_events}
@@ -107,7 +110,8 @@ module _ (o : OpenerState) (running : Running) (plan : Plan) (s t : ShareState) 
         rests = λ held calm. absurd (storing_not_calm calm);
         work = (
           facts.work.0,
-          (facts.work.1.1, record { before = changes_of past; made = []; are = sym (append-nil (changes_of past)); begun = facts.work.0; all = tied.at.2.3 }),
+          (facts.work.1.1, record { before = changes_of past; made = []; are = sym (append-nil (changes_of past)); begun = facts.work.0; all = tied.at.2.3 },
+            under_way_first o.who running start plan past facts.work.0 (ap (λ w. lock_of (locks_after past) w) (sym tied.who) ∙ lock ∙ tied.holds ∙ tied.at.2.0) facts.work.1.2),
         );
       })
     where

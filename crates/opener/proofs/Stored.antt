@@ -19,6 +19,7 @@ use Rattle.region_words.proofs.Held.{Apart-front}
 use Rattle.opener.specs.State.{OpenerState}
 use Rattle.opener.specs.Continues.{SameCall}
 use Rattle.opener.specs.Ends.{lock_by}
+use Rattle.opener.proofs.UnderWay.{under_way_on}
 use Rattle.opener.specs.Opener.{Tied, running_as}
 use Rattle.loader.specs.PartialLoads.{IsSoundImage, IsSoundStanding}
 use Rattle.opener.specs.Plans.{CanWrite, events_in}
@@ -151,6 +152,7 @@ stored_tied o running next plan b s t tied lock (first, is, goes) stands some ow
         (
           leads_next o.who running next same b first plan start past s.who is stands facts.work.1.0,
           made_on o.who running next same b first plan (with_making plan b) past s.who (commits_on o.who running next same b first plan is) facts.work.1.1,
+          under_way_on o.who running start next same plan (with_making plan b) past s.who first tied.who (events_on b first plan is) facts.work.1.2,
         ),
       );
     })
