@@ -1,6 +1,6 @@
 -- Stores that are under way, as their events are made and others make theirs.
-use Rattle.std.proofs.Common.{◌≡◌, ℕ, ◌≤◌, false, true, cond, List, [], ◌∷◌, ◌++◌, length, refl, sym, ap, ◌∙◌, subst, append-nil, append_assoc, ne_eqb, arith}
-use Rattle.std.specs.Prelude.{◌==◌, Some}
+use Rattle.std.proofs.Common.{◌≡◌, ℕ, ◌≤◌, false, true, cond, List, [], ◌∷◌, ◌++◌, length, length-append, ◌+◌, refl, sym, ap, ◌∙◌, subst, append-nil, append_assoc, ne_eqb, arith}
+use Rattle.std.specs.Prelude.{◌==◌, Some, None}
 use Rattle.std.proofs.lemmas.Bool.Decides.{nat_tests}
 use Rattle.lock_rules.specs.declared.table.LockKind.TheVariants.{Exclusive}
 use Rattle.region_words.specs.Local.{event_of}
@@ -11,9 +11,10 @@ use Rattle.region_words.specs.declared.event.Event.{Event}
 use Rattle.region_words.specs.declared.event.What.{What}
 use Rattle.opener.specs.Continues.{SameCall}
 use Rattle.opener.specs.Opener.{IsUnderWay, PlanIs, image_at, made_among}
-use Rattle.opener.specs.Plans.{IsPlanOf}
+use Rattle.opener.specs.Plans.{IsPlanOf, events_in}
 use Rattle.opener.specs.Writes.{events_of}
 use Rattle.opener.specs.declared.plan.Plan.{Plan}
+use Rattle.opener.specs.declared.plan.Plan.TheVariants.{Append, Rewrite}
 use Rattle.opener.specs.declared.work.Running.{Running}
 
 -- others make none of one's events
@@ -66,3 +67,12 @@ module _ (who : ℕ) (running : Running) (start : Region) where
         rest = u.rest ∙ ap (λ l. made_among who u.later ++ l) rest ∙ sym (append_assoc (made_among who u.later) (first ∷ []) (events_of then))
             ∙ ap (λ l. l ++ events_of then) (sym (one_among who maker first u.later mine));
       }
+
+-- so many are left of a plan
+pub events_counted : (plan : Plan) → length (events_of plan) ≡ events_in plan
+events_counted (Append a map) = refl
+events_counted (Rewrite r None map) = arith_zero (length r.events)
+  where
+    arith_zero : (n : ℕ) → n ≡ n + 0
+    arith_zero n = omega arith
+events_counted (Rewrite r (Some a) map) = length-append r.events a.events

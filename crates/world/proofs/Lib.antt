@@ -6,3 +6,4 @@ pub mod Turns
 pub mod Fresh
 pub mod Loaded
 pub mod Handed
+pub mod Owed

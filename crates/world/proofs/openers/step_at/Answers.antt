@@ -26,7 +26,7 @@ returns-clause-world c =
     let o = c.index_mut.result.now in
     let at : slice_get items c.args.place ≡ Some o = slice_get_read items (length items) c.args.place o (λ i. length items) (omega (arith, c.requires.inside, c.args.openers.now.ok.0)) c.index_mut.ensures.value in
     let e = c.step-came.ensures in
-    let made : Made o c.step-came.new.self c.step-came.result (seat_state c.turn_to.new.self) (seat_state c.step-came.new.share) = record { tied = e.tied; makes = e.makes; adds = e.adds; call = e.call; cause = e.cause; takes = e.takes; acts = e.acts; answer = e.answer; place = e.place; image = e.image; counts = e.counts; falls = e.falls; settles = e.settles } in
+    let made : Made o c.step-came.new.self c.step-came.result (seat_state c.turn_to.new.self) (seat_state c.step-came.new.share) = record { tied = e.tied; makes = e.makes; adds = e.adds; call = e.call; cause = e.cause; takes = e.takes; acts = e.acts; stores = e.stores; answer = e.answer; place = e.place; image = e.image; counts = e.counts; falls = e.falls; settles = e.settles } in
     subst (IsWorld _ _) (sym c.said.ensures.answers)
     (world_after c.args.seat.now.region c.turn_to.new.self c.step-came.new.share items c.args.answers.now.items c.args.place o c.step-came.new.self c.step-came.result c.requires.world at c.turn_to.ensures made)
 
@@ -36,7 +36,7 @@ returns-clause-room c =
     let o = c.index_mut.result.now in
     let at : slice_get items c.args.place ≡ Some o = slice_get_read items (length items) c.args.place o (λ i. length items) (omega (arith, c.requires.inside, c.args.openers.now.ok.0)) c.index_mut.ensures.value in
     let e = c.step-came.ensures in
-    let made : Made o c.step-came.new.self c.step-came.result (seat_state c.turn_to.new.self) (seat_state c.step-came.new.share) = record { tied = e.tied; makes = e.makes; adds = e.adds; call = e.call; cause = e.cause; takes = e.takes; acts = e.acts; answer = e.answer; place = e.place; image = e.image; counts = e.counts; falls = e.falls; settles = e.settles } in
+    let made : Made o c.step-came.new.self c.step-came.result (seat_state c.turn_to.new.self) (seat_state c.step-came.new.share) = record { tied = e.tied; makes = e.makes; adds = e.adds; call = e.call; cause = e.cause; takes = e.takes; acts = e.acts; stores = e.stores; answer = e.answer; place = e.place; image = e.image; counts = e.counts; falls = e.falls; settles = e.settles } in
     let room = room_after c.args.seat.now.region c.turn_to.new.self c.step-came.new.share items c.args.answers.now.items c.args.place o c.step-came.new.self c.step-came.result c.requires.world at c.turn_to.ensures made
     (vec_capacity c.args.answers.now) (omega (arith, c.requires.room, c.args.answers.now.ok.0)) in
     omega (arith, room, ap length c.said.ensures.answers, c.said.new.answers.ok.0, c.said.ensures.capacity)
@@ -47,7 +47,7 @@ returns-clause-moves c noted =
     let o = c.index_mut.result.now in
     let at : slice_get items c.args.place ≡ Some o = slice_get_read items (length items) c.args.place o (λ i. length items) (omega (arith, c.requires.inside, c.args.openers.now.ok.0)) c.index_mut.ensures.value in
     let e = c.step-came.ensures in
-    let made : Made o c.step-came.new.self c.step-came.result (seat_state c.turn_to.new.self) (seat_state c.step-came.new.share) = record { tied = e.tied; makes = e.makes; adds = e.adds; call = e.call; cause = e.cause; takes = e.takes; acts = e.acts; answer = e.answer; place = e.place; image = e.image; counts = e.counts; falls = e.falls; settles = e.settles } in
+    let made : Made o c.step-came.new.self c.step-came.result (seat_state c.turn_to.new.self) (seat_state c.step-came.new.share) = record { tied = e.tied; makes = e.makes; adds = e.adds; call = e.call; cause = e.cause; takes = e.takes; acts = e.acts; stores = e.stores; answer = e.answer; place = e.place; image = e.image; counts = e.counts; falls = e.falls; settles = e.settles } in
     let steps = steps_are c.args.seat.now.region c.turn_to.new.self c.step-came.new.share items c.args.answers.now.items c.args.place o c.step-came.new.self c.step-came.result c.requires.world at c.turn_to.ensures made
     noted c.said.new.answers.items c.said.ensures.answers (c.requires.alive o at) in
     moves_by _ _ c.said.result _ _ o c.step-came.new.self c.step-came.result c.said.ensures.said (omega (arith, c.args.answers.now.ok.0)) steps
@@ -58,7 +58,7 @@ returns-clause-held c =
     let o = c.index_mut.result.now in
     let at : slice_get items c.args.place ≡ Some o = slice_get_read items (length items) c.args.place o (λ i. length items) (omega (arith, c.requires.inside, c.args.openers.now.ok.0)) c.index_mut.ensures.value in
     let e = c.step-came.ensures in
-    let made : Made o c.step-came.new.self c.step-came.result (seat_state c.turn_to.new.self) (seat_state c.step-came.new.share) = record { tied = e.tied; makes = e.makes; adds = e.adds; call = e.call; cause = e.cause; takes = e.takes; acts = e.acts; answer = e.answer; place = e.place; image = e.image; counts = e.counts; falls = e.falls; settles = e.settles } in
+    let made : Made o c.step-came.new.self c.step-came.result (seat_state c.turn_to.new.self) (seat_state c.step-came.new.share) = record { tied = e.tied; makes = e.makes; adds = e.adds; call = e.call; cause = e.cause; takes = e.takes; acts = e.acts; stores = e.stores; answer = e.answer; place = e.place; image = e.image; counts = e.counts; falls = e.falls; settles = e.settles } in
     held_kept c.args.seat.now.region c.turn_to.new.self c.step-came.new.share items c.args.answers.now.items c.args.place o c.step-came.new.self c.step-came.result c.requires.world at c.turn_to.ensures made c.said.new.answers.items false
 
 pub returns-clause-start : goal.returns-clause-start
@@ -67,5 +67,5 @@ returns-clause-start c =
     let o = c.index_mut.result.now in
     let at : slice_get items c.args.place ≡ Some o = slice_get_read items (length items) c.args.place o (λ i. length items) (omega (arith, c.requires.inside, c.args.openers.now.ok.0)) c.index_mut.ensures.value in
     let e = c.step-came.ensures in
-    let made : Made o c.step-came.new.self c.step-came.result (seat_state c.turn_to.new.self) (seat_state c.step-came.new.share) = record { tied = e.tied; makes = e.makes; adds = e.adds; call = e.call; cause = e.cause; takes = e.takes; acts = e.acts; answer = e.answer; place = e.place; image = e.image; counts = e.counts; falls = e.falls; settles = e.settles } in
+    let made : Made o c.step-came.new.self c.step-came.result (seat_state c.turn_to.new.self) (seat_state c.step-came.new.share) = record { tied = e.tied; makes = e.makes; adds = e.adds; call = e.call; cause = e.cause; takes = e.takes; acts = e.acts; stores = e.stores; answer = e.answer; place = e.place; image = e.image; counts = e.counts; falls = e.falls; settles = e.settles } in
     start_same c.args.seat.now.region c.turn_to.new.self c.step-came.new.share items c.args.answers.now.items c.args.place o c.step-came.new.self c.step-came.result c.requires.world at c.turn_to.ensures made
