@@ -158,7 +158,6 @@ begun_tied o new asked now changes s tied bytes none count next first is =
       who = tied.who;
       maker = tied.maker;
       ended = tied.ended ∙ ap is_ended idle.0;
-      handled = tied.handled ∙ ap (λ w. not (is_ended w)) idle.0;
       holds = tied.holds ∙ ap (lock_in o.holds) idle.0;
       deep = tied.deep;
       sound = tied.sound;

@@ -40,6 +40,7 @@ use Rattle.loader.specs.declared.loaded.Image.{Image}
 use Rattle.opener.specs.State.{OpenerState}
 use Rattle.opener.specs.Calls.{is_write}
 use Rattle.opener.specs.Ends.{OnImage, lock_by}
+use Rattle.opener.proofs.UnderWay.{under_way_still}
 use Rattle.opener.specs.Opener.{Facts, Knows, Tied, IsShown, WasShown, ImageIs, PlanIs, ReplyIs, ChangeIs, EndIs, EndsNow, IsLastPlace, KeepsWords, MatchesRegion, StageIs, WorkIs, IsAt, IsAtStage, Owes, image_at, lock_in, is_ended, is_storing, IsCalm}
 use Rattle.loader.specs.PartialLoads.{HasLoadedPart, IsSoundImage, kept_image}
 use Rattle.opener.specs.Plans.{IsPlanOf}
@@ -241,7 +242,7 @@ module _ (o : OpenerState) (running : Running) (start : Region) (others past : L
       )
   stage_later (Store plan) rests own at is =
       let s = same (exclusive_some lock at.0) in
-      (plan_on start others past s.0 s.1 plan is.0, record { before = is.1.before; made = is.1.made; are = s.1 ∙ is.1.are; begun = is.1.begun; all = is.1.all })
+      (plan_on start others past s.0 s.1 plan is.0, record { before = is.1.before; made = is.1.made; are = s.1 ∙ is.1.are; begun = is.1.begun; all = is.1.all }, under_way_still o.who running start plan others past none is.2)
   stage_later (Unlock how) rests own at is =
       let s = same (taken_held o.holds running.taken own at.0) in
       (end_later o.who how running start others past is.0, ends_later o.image how running start others past s.0 s.1 is.1)
@@ -294,17 +295,16 @@ told_call o s t left E P tied after learned follows =
 
 -- the share is tied to the opener that is left
 pub tied_after : (o next : OpenerState) (s t : ShareState) (left : Left) (E : Region → List Event → Type 0) → Tied o s → After left s t → next.who ≡ o.who →
-    left.ended ≡ is_ended next.work → next.handled ≡ not (is_ended next.work) → left.holds ≡ lock_in next.holds next.work → next.holds ≤ 1000 → OnImage next.image IsSoundImage → IsAt next next.work → Owes next next.work t →
+    left.ended ≡ is_ended next.work → left.holds ≡ lock_in next.holds next.work → next.holds ≤ 1000 → OnImage next.image IsSoundImage → IsAt next next.work → Owes next next.work t →
     OnTold t.told (λ k. E k.start k.past) →
     ((start : Region) (past : List Event) → IsRegion start → Lawful start (made_by s.who left.own ++ past) → lock_after past s.who ≡ s.holds → Facts o start past →
     E start (made_by s.who left.own ++ past) → Facts next start (made_by s.who left.own ++ past)) →
     Tied next t
-tied_after o next s t left E tied after who ended handled holds deep sound at owes learned follows =
+tied_after o next s t left E tied after who ended holds deep sound at owes learned follows =
     record {
       who = after.same.who ∙ tied.who ∙ sym who;
       maker = subst (λ w. (1 ≤ w) × (w ≤ 64)) (sym who) tied.maker;
       ended = after.ended ∙ ended;
-      handled = handled;
       holds = after.holds ∙ holds;
       deep = deep;
       sound = sound;

@@ -19,6 +19,7 @@ use Rattle.opener.specs.declared.work.Stage.TheVariants as stage
 use Rattle.opener.specs.declared.work.Work.TheVariants.{Idle, Runs}
 use Rattle.opener.proofs.Carry.{changes_are, end_later, image_later, none_or_some, none_reserved, own_if, taken_held, tied_after, told_call, words_later}
 use Rattle.opener.proofs.Leaves.{is_answer}
+use Rattle.opener.proofs.StoresNext.{finishes_stores}
 use Rattle.opener.proofs.Stopped.{nothing_told}
 use Rattle.opener.specs.Steps.{IsPlaceOf, KeepsImage, Steps}
 use Rattle.opener.proofs.Added.{adds_quietly, unlock_quietly}
@@ -43,7 +44,7 @@ module _ (o : OpenerState) (running : Running) (s t : ShareState) (goes : Goes (
       let none = free (end.Answer place reply) tied in
       subst (λ (n : OpenerState). Tied n t) (sym is.1)
       (tied_after (running_as o running (stage.Unlock (end.Answer place reply))) (record o { work = Idle }) s t (unlocked_by s) (λ start past. ⊤) tied goes.after refl
-      tied.ended tied.handled (sym none) tied.deep tied.sound tt (none_reserved s t (unlocked_by s) goes.after refl) (nothing_told t.told)
+      tied.ended (sym none) tied.deep tied.sound tt (none_reserved s t (unlocked_by s) goes.after refl) (nothing_told t.told)
       (λ start past region lawful lock facts e. record {
         image = image_later o.image start (event_of s.who Unlock ∷ []) past lawful facts.image;
         rests = λ held. let both = sym none ∙ held in absurd cc;
@@ -53,7 +54,7 @@ module _ (o : OpenerState) (running : Running) (s t : ShareState) (goes : Goes (
       let none = free (end.Stop why) tied in
       subst (λ (n : OpenerState). Tied n t) (sym is.1)
       (tied_after (running_as o running (stage.Unlock (end.Stop why))) (record o { image = None; work = Idle }) s t (unlocked_by s) (λ start past. ⊤) tied goes.after refl
-      tied.ended tied.handled (sym none) tied.deep tt tt (none_reserved s t (unlocked_by s) goes.after refl) (nothing_told t.told)
+      tied.ended (sym none) tied.deep tt tt (none_reserved s t (unlocked_by s) goes.after refl) (nothing_told t.told)
       (λ start past region lawful lock facts e. record { image = tt; rests = λ held. let both = sym none ∙ held in absurd cc; work = tt }))
 
   pub unlocked_place : (how : End) (ended : ℕ) (result : Step) (new : OpenerState) → Tied (running_as o running (stage.Unlock how)) s → ended ≡ changes_told t.told →
@@ -111,6 +112,7 @@ unlocks {o} {running} {how} {result} {new} {s} {t} tied ended goes is count =
       acts = finishes_acts (stage.Unlock how) o.image running how ended o result new s t (end_acts how (stage.Unlock how) o.image new.work s t (λ a. tt)) is;
       answer = unlocked_answer o running s t goes how ended result new tied count is;
       place = unlocked_place o running s t goes how ended result new tied count is;
+      stores = finishes_stores (stage.Unlock how) running how ended o result new is;
       image = unlocked_image o running s t goes how ended result new tied is;
       counts = λ has. unlocked_counted o.who running how ended o result new has is;
       falls = finishes_falls running running (stage.Unlock how) how ended o result new t is;

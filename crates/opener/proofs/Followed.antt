@@ -35,6 +35,7 @@ use Rattle.std.proofs.lemmas.List.Sums.{fold-append}
 use Rattle.appender.specs.Appends.{CanAppend, appending}
 use Rattle.opener.specs.State.{OpenerState}
 use Rattle.opener.specs.Ends.{lock_by}
+use Rattle.opener.proofs.UnderWay.{under_way_on}
 use Rattle.opener.specs.Opener.{Tied, Facts, running_as}
 use Rattle.loader.specs.PartialLoads.{IsSoundStanding}
 use Rattle.opener.specs.Plans.{CanWrite, events_in}
@@ -251,7 +252,7 @@ module _ (o : OpenerState) (running next : Running) (r b a : Making) (map : Map)
   followed_tied =
       let same = lock.same in
       let held : lock_by o.holds next.taken ≡ lock_by o.holds running.taken = ap (lock_by o.holds) lock.taken in
-      tied_after (running_as o running (stage.Store (Rewrite r (Some a) map))) (running_as o next (stage.Store (Append a map))) s t (stored first s) (IsFollowed o.who change a map) tied after refl tied.ended tied.handled
+      tied_after (running_as o running (stage.Store (Rewrite r (Some a) map))) (running_as o next (stage.Store (Append a map))) s t (stored first s) (IsFollowed o.who change a map) tied after refl tied.ended
       (tied.holds ∙ sym held) tied.deep tied.sound
       ((λ some. lock.taken ∙ tied.at.0 some), subst CanWrite (sym same.call) tied.at.1, (held ∙ tied.at.2.0, (subst (λ (k : Making). k.events ≢ []) (sym a_is) (append_some b.standing change), tied.at.2.1.4)))
       followed_owes followed
@@ -264,6 +265,7 @@ module _ (o : OpenerState) (running next : Running) (r b a : Making) (map : Map)
             e.leads,
             made_on o.who running next same b first (Rewrite r (Some a) map) (Append a map) past s.who
                 (ap (λ l. commits_of l ++ commits_of a.events) only ∙ ap (λ l. l ++ commits_of a.events) (append-nil (change_of first))) facts.work.1.1,
+            under_way_on o.who running start next same (Rewrite r (Some a) map) (Append a map) past s.who first tied.who (ap (λ l. l ++ a.events) only) facts.work.1.2,
           ),
         );
       })

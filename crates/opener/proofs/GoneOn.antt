@@ -135,7 +135,7 @@ module _ (o : OpenerState) (running next : Running) (old : PartialLoad) (result 
   going_steps now going kept map one most within told on =
       let image : kept_image now.map now ≡ kept_image old.map old = λ j. record { standing = kept j; map = map j } in
       loads_on tied (λ stored none. none) o next (Continue now) refl goes more tt (λ looks. (refl, λ j. Some (image j))) (λ has. counts has (omega (arith, one, most)) ∙ omega (arith, one)) on refl (λ so_far are. are)
-      (tied_after (running_as o running (Continue old)) (running_as o next (Continue now)) s t (loaded s) (λ start past. HasLoadedPart now (region_after start past)) tied goes.after refl tied.ended tied.handled
+      (tied_after (running_as o running (Continue old)) (running_as o next (Continue now)) s t (loaded s) (λ start past. HasLoadedPart now (region_after start past)) tied goes.after refl tied.ended
       (tied.holds ∙ lock) tied.deep tied.sound
       ((λ some. same.taken ∙ tied.at.0 some), subst IsPlain (sym same.same.call) tied.at.1, (going, (λ none. tied.at.2.1 (lock ∙ none)), looks_next, subst IsSoundImage (sym image) tied.at.2.3, tied.at.2.4))
       (none_reserved s t (loaded s) goes.after tied.owes) told
@@ -148,6 +148,7 @@ module _ (o : OpenerState) (running next : Running) (old : PartialLoad) (result 
         falls = λ words known. omega (arith, one, within, known);
         met = told_map t.told (λ h. HasLoadedPart now (region_after h.start h.past)) (λ h. now.file_size ≤ file_size (region_after h.start h.past)) (λ h has. has.file) told;
       })
+      tt
 
   -- it doesn't hold, and a full load begins
   pub fails_steps : LoadFails old t → BeginsLoad Full next o result new → Steps o running (Continue old) result new s t
@@ -164,7 +165,7 @@ module _ (o : OpenerState) (running next : Running) (old : PartialLoad) (result 
         looks = looks_next;
         rests = λ start past lawful facts held apart. facts.rests (lock ∙ held) refl apart;
       }) loading fresh)
-      (plainly_shorter _ _ t refl (λ words. omega arith))
+      (plainly_shorter _ _ t refl (λ words. omega arith)) tt
 
   leaving : (image : Option Image) → OnImage image IsSoundImage → Leaving o (record o { image = image }) running next s t
   leaving image sound =
@@ -175,7 +176,6 @@ module _ (o : OpenerState) (running next : Running) (old : PartialLoad) (result 
         lock = refl;
         places = tied.owes;
         who = refl;
-        handled = refl;
         holds = refl;
         sound = sound;
         taken = same.taken;

@@ -90,7 +90,6 @@ module _ (o : OpenerState) (running : Running) (stage : Stage) (s : ShareState) 
         who = tied.who;
         maker = tied.maker;
         ended = tied.ended;
-        handled = tied.handled;
         holds = tied.holds ∙ exclusive_if o.holds running.taken some ∙ sym (exclusive_if holds None more);
         deep = deep;
         sound = tied.sound;
@@ -112,7 +111,7 @@ module _ (o : OpenerState) (running next : Running) (s t : ShareState) (tied : T
   -- the first hold takes the lock
   pub held_tied : Tied (record o { holds = 1; work = Idle }) t
   held_tied =
-      tied_after (running_as o running stage.Hold) (record o { holds = 1; work = Idle }) s t (locked Exclusive s) (λ start past. ⊤) tied tries.0.after refl tied.ended tied.handled refl
+      tied_after (running_as o running stage.Hold) (record o { holds = 1; work = Idle }) s t (locked Exclusive s) (λ start past. ⊤) tied tries.0.after refl tied.ended refl
       (omega arith) tied.sound tt (none_reserved s t (locked Exclusive s) tries.0.after tied.owes) (nothing_told t.told)
       (λ start past region lawful lock facts e. record {
         image = image_later o.image start (event_of s.who (Lock Exclusive) ∷ []) past lawful facts.image;
@@ -132,7 +131,7 @@ module _ (o : OpenerState) (running : Running) (s t : ShareState) (goes : Goes (
   -- the last release gives it up
   pub released_tied : Tied (record o { holds = 0; work = Idle }) t
   released_tied =
-      tied_after (running_as o running stage.Release) (record o { holds = 0; work = Idle }) s t (unlocked_by s) (λ start past. ⊤) tied goes.after refl tied.ended tied.handled refl
+      tied_after (running_as o running stage.Release) (record o { holds = 0; work = Idle }) s t (unlocked_by s) (λ start past. ⊤) tied goes.after refl tied.ended refl
       (omega arith) tied.sound tt (none_reserved s t (unlocked_by s) goes.after refl) (nothing_told t.told)
       (λ start past region lawful lock facts e. record {
         image = image_later o.image start (event_of s.who Unlock ∷ []) past lawful facts.image;

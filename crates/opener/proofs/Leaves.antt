@@ -77,7 +77,6 @@ pub record Leaving (o mid : OpenerState) (running next : Running) (s t : ShareSt
   pub lock : left.holds ≡ s.holds
   pub places : left.places ≡ 0
   pub who : mid.who ≡ o.who
-  pub handled : mid.handled ≡ o.handled
   pub holds : mid.holds ≡ o.holds
   pub sound : OnImage mid.image IsSoundImage
   pub taken : next.taken ≡ running.taken
@@ -94,13 +93,13 @@ module _ (o mid : OpenerState) (running next : Running) (stage : Stage) (s t : S
       OnTold t.told (λ k. LeftWith (peek_of stage) mid next how k.start k.past) → Tied (record mid { image = image; work = Idle }) t
   over how image sound keeps none told =
       tied_after (running_as o running stage) (record mid { image = image; work = Idle }) s t is.left (LeftWith (peek_of stage) mid next how) tied is.after is.who (is.alive ∙ tied.ended)
-      (is.handled ∙ tied.handled) (held ∙ ap (lock_by mid.holds) none) deep sound tt (none_reserved s t is.left is.after is.places) told
+      (held ∙ ap (lock_by mid.holds) none) deep sound tt (none_reserved s t is.left is.after is.places) told
       (λ start past region lawful lock facts e. record { image = keeps start _ e; rests = λ mine calm. e.rests (ap (lock_by mid.holds) none ∙ mine); work = tt })
 
   waits : (how : End) (kind : LockKind) → MayEnd how → next.taken ≡ Some kind → OnTold t.told (λ k. LeftWith (peek_of stage) mid next how k.start k.past) → Tied (running_as mid next (Unlock how)) t
   waits how kind may some told =
       tied_after (running_as o running stage) (running_as mid next (Unlock how)) s t is.left (LeftWith (peek_of stage) mid next how) tied is.after is.who (is.alive ∙ tied.ended)
-      (is.handled ∙ tied.handled) held deep is.sound (own, is.plain, ((λ none. let both = sym some ∙ none in absurd cc), may)) (none_reserved s t is.left is.after is.places) told
+      held deep is.sound (own, is.plain, ((λ none. let both = sym some ∙ none in absurd cc), may)) (none_reserved s t is.left is.after is.places) told
       (λ start past region lawful lock facts e. record { image = e.image; rests = λ mine calm. e.rests mine; work = (e.begun, (e.end_is, ends_now how (peek_of stage) mid.image next kind start _ some e.ends)) })
     where
       own : 0 < mid.holds → next.taken ≡ None

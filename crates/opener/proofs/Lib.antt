@@ -43,3 +43,5 @@ pub mod Storing
 pub mod WriteStops
 pub mod Written
 mod RefusedRecords
+pub mod StoresNext
+pub mod UnderWay

@@ -53,7 +53,7 @@ module _ (o : OpenerState) (running next : Running) (stage : Stage) (s t : Share
     (same : SameCall running next) (may : MayLoad o running next stage s left) where
   pub whole_tied : (loading : Loading) → IsFresh loading → Tied (running_as o next (Load loading)) t
   whole_tied loading fresh =
-      tied_after (running_as o running stage) (running_as o next (Load loading)) s t left (λ start past. ⊤) tied after refl may.alive tied.handled may.lock tied.deep tied.sound
+      tied_after (running_as o running stage) (running_as o next (Load loading)) s t left (λ start past. ⊤) tied after refl may.alive may.lock tied.deep tied.sound
       (may.own, may.plain, (fresh.going, may.held, may.looks)) (none_reserved s t left after may.places) (nothing_told t.told)
       (λ start past region lawful lock facts e. record {
         image = image_later o.image start (made_by s.who left.own) past lawful facts.image;
@@ -63,7 +63,7 @@ module _ (o : OpenerState) (running next : Running) (stage : Stage) (s t : Share
 
   pub part_tied : (i : Image) → o.image ≡ Some i → Tied (record (running_as o next (Continue (going_on_from i))) { image = None }) t
   part_tied i kept =
-      tied_after (running_as o running stage) (record (running_as o next (Continue (going_on_from i))) { image = None }) s t left (λ start past. ⊤) tied after refl may.alive tied.handled may.lock tied.deep tt
+      tied_after (running_as o running stage) (record (running_as o next (Continue (going_on_from i))) { image = None }) s t left (λ start past. ⊤) tied after refl may.alive may.lock tied.deep tt
       (may.own, may.plain, (record { lacking = tt }, may.held, may.looks, subst (λ k. OnImage k IsSoundImage) kept tied.sound, refl)) (none_reserved s t left after may.places) (nothing_told t.told)
       (λ start past region lawful lock facts e.
       let image = subst (λ k. ImageIs k start (made_by s.who left.own ++ past)) kept (image_later o.image start (made_by s.who left.own) past lawful facts.image) in
@@ -112,15 +112,15 @@ module _ (o : OpenerState) (running : Running) (peek : Peek) (result : Step) (ne
           Steps o running (PeekSequence peek) result new s t
       go None none extent look can on =
           loads_on tied (λ stored none. none) o next (LockShared extent) refl goes more look (λ looks. (refl, refl)) (asked_counted extent) on refl (λ so_far are. are)
-          (asks_shared o running next peek s t tied (loaded_same running next more) goes extent can (ap (lock_by o.holds) (sym (loaded_same running next more).taken) ∙ none)) (asked_shorter running next t peek extent)
+          (asks_shared o running next peek s t tied (loaded_same running next more) goes extent can (ap (lock_by o.holds) (sym (loaded_same running next more).taken) ∙ none)) (asked_shorter running next t peek extent) tt
       go (Some kind) held Full look can (loading, fresh, on) =
           loads_on tied (λ stored none. none) o next (Load loading) refl goes more look (λ looks. (refl, refl)) (λ has. omega (arith, fresh.none)) on refl (λ so_far are. are)
           (whole_tied o running next (PeekSequence peek) s t (loaded s) tied goes.after same (may_load kind held) loading fresh)
-          (plainly_shorter _ _ t refl (λ words. omega arith))
+          (plainly_shorter _ _ t refl (λ words. omega arith)) tt
       go (Some kind) held Partial look can (i, kept, on) =
           loads_on tied (λ stored none. none) (record o { image = None }) next (Continue (going_on_from i)) refl goes more look (λ looks. (refl, sym kept)) (λ has. omega (arith, (counted_two has).0)) on refl (λ so_far are. are)
           (part_tied o running next (PeekSequence peek) s t (loaded s) tied goes.after same (may_load kind held) i kept)
-          (plainly_shorter _ _ t refl (λ words. omega arith))
+          (plainly_shorter _ _ t refl (λ words. omega arith)) tt
 
 -- the shared lock was taken
 module _ (o : OpenerState) (running : Running) (result : Step) (new : OpenerState) (s t : ShareState) (next : Running) (tries : Tries Shared Taken s t)
@@ -148,8 +148,8 @@ module _ (o : OpenerState) (running : Running) (result : Step) (new : OpenerStat
   pub locked_steps : (extent : Extent) → Tied (running_as o running (LockShared extent)) s → BeginsLoad extent next o result new → Steps o running (LockShared extent) result new s t
   locked_steps Full tied (loading, fresh, on) =
       locks_on tied (λ stored none. none) o next Shared (reads_shared running.call tied.at.1.0 tied.at.1.1) (Load loading) refl (free Full tied) tries more refl (λ looks. (refl, refl)) (λ has. omega (arith, fresh.none)) on refl (λ so_far are. are)
-      (whole_tied o running next (LockShared Full) s t (locked Shared s) tied tries.0.after same (may_load_locked Full tied) loading fresh) (plainly_shorter _ _ t refl (λ words. omega arith))
+      (whole_tied o running next (LockShared Full) s t (locked Shared s) tied tries.0.after same (may_load_locked Full tied) loading fresh) (plainly_shorter _ _ t refl (λ words. omega arith)) tt
   locked_steps Partial tied (i, kept, on) =
       locks_on tied (λ stored none. none) (record o { image = None }) next Shared (reads_shared running.call tied.at.1.0 tied.at.1.1) (Continue (going_on_from i)) refl (free Partial tied) tries more refl (λ looks. (refl, sym kept))
       (λ has. omega (arith, has.0, ap (λ (r : Running). r.loads) more)) on refl (λ so_far are. are)
-      (part_tied o running next (LockShared Partial) s t (locked Shared s) tied tries.0.after same (may_load_locked Partial tied) i kept) (plainly_shorter _ _ t refl (λ words. omega arith))
+      (part_tied o running next (LockShared Partial) s t (locked Shared s) tied tries.0.after same (may_load_locked Partial tied) i kept) (plainly_shorter _ _ t refl (λ words. omega arith)) tt

@@ -137,7 +137,6 @@ module _ (o : OpenerState) (running next : Running) (old : Loading) (result : St
         lock = refl;
         places = tied.owes;
         who = refl;
-        handled = refl;
         holds = refl;
         sound = sound;
         taken = same.taken;

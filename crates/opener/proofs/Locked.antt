@@ -76,7 +76,7 @@ pub exclusive_tied : (o : OpenerState) (running next : Running) (stage : Stage) 
 exclusive_tied o running next stage s t tied same taken tries notices =
     let mine : lock_by o.holds next.taken ≡ Some Exclusive = own_if o.holds next.taken tied.at.2.0 ∙ taken in
     let may = may_notice o next stage next.taken (subst CanWrite (sym same.call) tied.at.1) mine mine o.image refl notices in
-    tied_after (running_as o running LockExclusive) (running_as o next stage) s t (locked Exclusive s) (λ start past. ⊤) tied tries.0.after refl tied.ended tied.handled
+    tied_after (running_as o running LockExclusive) (running_as o next stage) s t (locked Exclusive s) (λ start past. ⊤) tied tries.0.after refl tied.ended
     (sym mine) tied.deep tied.sound ((λ some. absurd (omega (arith, some, tied.at.2.0))), may.suits, may.at) (may.owes t (none_reserved s t (locked Exclusive s) tries.0.after tied.owes)) (nothing_told t.told)
     (λ start past region lawful lock facts e. record {
       image = image_later o.image start (event_of s.who (Lock Exclusive) ∷ []) past lawful facts.image;

@@ -113,7 +113,6 @@ module _ (o : OpenerState) (running next : Running) (peek : Peek) (s t : ShareSt
         lock = refl;
         places = tied.owes;
         who = refl;
-        handled = refl;
         holds = refl;
         sound = tied.sound;
         taken = same.taken;
@@ -164,7 +163,7 @@ module _ (o : OpenerState) (running next : Running) (peek : Peek) (s t : ShareSt
   pub asks_shared : (extent : Extent) → CanLoad extent o.image → lock_by o.holds running.taken ≡ None → Tied (running_as o next (LockShared extent)) t
   asks_shared extent can none =
       let f = free none in
-      tied_after (running_as o running (PeekSequence peek)) (running_as o next (LockShared extent)) s t (loaded s) (λ start past. ⊤) tied goes.after refl tied.ended tied.handled (tied.holds ∙ lock)
+      tied_after (running_as o running (PeekSequence peek)) (running_as o next (LockShared extent)) s t (loaded s) (λ start past. ⊤) tied goes.after refl tied.ended (tied.holds ∙ lock)
       tied.deep tied.sound
       ((λ some. same.taken ∙ tied.at.0 some), (subst IsPlain (sym same.same.call) tied.at.1, unwritten none), (f.0, same.taken ∙ f.1, can)) (none_reserved s t (loaded s) goes.after tied.owes) (nothing_told t.told)
       (λ start past region lawful mine facts k. record { image = facts.image; rests = λ held calm. facts.rests (lock ∙ held) refl; work = (omega (arith, same.same.begun, facts.work.0), tt) })

@@ -18,7 +18,9 @@ use Rattle.opener.specs.Extents.{load_after}
 use Rattle.opener.specs.declared.work.Extent.{Extent}
 use Rattle.opener.specs.declared.work.Extent.TheVariants.{Partial, Full}
 use Rattle.opener.specs.Opener.{Tied, Owes, WorkIs, is_ended, lock_in, running_as}
-use Rattle.opener.specs.Quick.{IsUpToDate, IsAnswered, IsStale, Peeks, WasMap, ended_as}
+use Rattle.opener.specs.Quick.{IsUpToDate, IsAnswered, IsStale, KeptValuesAnswer, Peeks, WasMap, ended_as}
+use Rattle.opener.specs.Ends.{OnImage}
+use Rattle.loader.specs.Maps.{map_of_image}
 use Rattle.opener.specs.declared.work.Running.{Running}
 use Rattle.opener.specs.declared.work.Stage.TheVariants.{PeekChecksum, PeekSequence}
 use Rattle.opener.specs.declared.work.Work.TheVariants.{Idle}
@@ -82,7 +84,7 @@ module _ (o : OpenerState) (i : Image) (s m : ShareState) (peek : Peek) (tied : 
     -- the opener is as before
     pub tied_still : Tied o t
     tied_still =
-        tied_after (running_as o (looking s) (PeekSequence peek)) o m t (loaded m) (λ start past. ⊤) peeked second.after refl (peeked.ended ∙ sym (ap is_ended idle)) tied.handled
+        tied_after (running_as o (looking s) (PeekSequence peek)) o m t (loaded m) (λ start past. ⊤) peeked second.after refl (peeked.ended ∙ sym (ap is_ended idle))
         (peeked.holds ∙ sym (ap (lock_in o.holds) idle)) tied.deep tied.sound tied.at
         (subst (λ w. Owes o w t) (sym idle) (none_reserved m t (loaded m) second.after peeked.owes)) (nothing_told t.told)
         (λ start past region lawful lock facts e. record {
@@ -133,3 +135,7 @@ answered image value key now s t is e =
         value_is = λ ok apart. e ∙ ap (λ m. value_at m key now) (was.map_is ok apart);
       }) is.history;
     }
+
+-- and so it is where the image says it of itself
+pub answers : KeptValuesAnswer
+answers image value key now s t is e = answered image value key now s t is (subst (λ z. OnImage z (λ i. value ≡ value_at (map_of_image i) key now)) is.kept e)

@@ -101,7 +101,7 @@ module _ (o mid : OpenerState) (i : Image) (running next : Running) (stage : Sta
   size_tied : is_write next.call ≡ true → Tied (running_as mid next Size) t
   size_tied write =
       tied_after (running_as o running stage) (running_as mid next Size) s t is.left (ReadyWith (peek_of stage) mid i next place) tied is.after is.who (is.alive ∙ tied.ended)
-      (is.handled ∙ tied.handled) held deep is.sound (own, can_write next.call is.plain write, ((λ none. let both = sym kept ∙ none in absurd cc), looks write)) (none_reserved s t is.left is.after is.places) told
+      held deep is.sound (own, can_write next.call is.plain write, ((λ none. let both = sym kept ∙ none in absurd cc), looks write)) (none_reserved s t is.left is.after is.places) told
       (λ start past region lawful lock facts e. sized start _ write e)
 
   -- how a call ends that the image answers

@@ -17,6 +17,9 @@ use Rattle.region_words.proofs.Telling.{told_and}
 use Rattle.opener.specs.State.{OpenerState}
 use Rattle.opener.specs.Calls.{IsPlain, is_write}
 use Rattle.opener.specs.Counted.{counted}
+use Rattle.opener.proofs.UnderWay.{under_way_first}
+use Rattle.region_words.specs.Past.{locks_after}
+use Rattle.region_words.specs.Share.{lock_of}
 use Rattle.opener.specs.Opener.{Tied, PlanIs, running_as}
 use Rattle.opener.specs.Plans.{CanWrite, events_in, room_in}
 use Rattle.opener.specs.Writes.{IsSoundPlan, IsRowOf, PlanStarts, OwesPlan, first_events}
@@ -100,14 +103,15 @@ module _ (o : OpenerState) (running : Running) (plan : Plan) (s t : ShareState) 
   -- the stores are next
   pub reserved_tied : Goes (reserving (counted (events_in plan)) (room_in plan) s) s t → Tied (running_as o running (stage.Store plan)) t
   reserved_tied goes =
-      tied_after (running_as o running (stage.Reserve plan)) (running_as o running (stage.Store plan)) s t (reserving (counted (events_in plan)) (room_in plan) s) (λ start past. ⊤) tied goes.after refl tied.ended tied.handled
+      tied_after (running_as o running (stage.Reserve plan)) (running_as o running (stage.Store plan)) s t (reserving (counted (events_in plan)) (room_in plan) s) (λ start past. ⊤) tied goes.after refl tied.ended
       tied.holds tied.deep tied.sound (tied.at.0, tied.at.1, (tied.at.2.0, tied.at.2.2)) (reserved_owes goes) (nothing_told t.told)
       (λ start past region lawful lock facts e. record {
         image = facts.image;
         rests = λ held calm. absurd (storing_not_calm calm);
         work = (
           facts.work.0,
-          (facts.work.1.1, record { before = changes_of past; made = []; are = sym (append-nil (changes_of past)); begun = facts.work.0; all = tied.at.2.3 }),
+          (facts.work.1.1, record { before = changes_of past; made = []; are = sym (append-nil (changes_of past)); begun = facts.work.0; all = tied.at.2.3 },
+            under_way_first o.who running start plan past facts.work.0 (ap (λ w. lock_of (locks_after past) w) (sym tied.who) ∙ lock ∙ tied.holds ∙ tied.at.2.0) facts.work.1.2),
         );
       })
     where
@@ -118,7 +122,7 @@ module _ (o : OpenerState) (running : Running) (plan : Plan) (s t : ShareState) 
   module _ (goes : Goes (unmoved s) s t) where
     pub unreserved_leaving : IsPlain running.call → Leaving o o running running s t
     unreserved_leaving plain =
-        record { left = unmoved s; after = goes.after; alive = refl; lock = refl; places = tied.owes; who = refl; handled = refl; holds = refl; sound = tied.sound; taken = refl; plain = plain }
+        record { left = unmoved s; after = goes.after; alive = refl; lock = refl; places = tied.owes; who = refl; holds = refl; sound = tied.sound; taken = refl; plain = plain }
 
     pub unreserved_left : (why : Stop) → OnTold t.told (λ k. LeftWith None o running (end.Stop why) k.start k.past)
     unreserved_left why =

@@ -16,7 +16,7 @@ use Rattle.opener.specs.Ends.{GoesOn, Rewritten}
 use Rattle.opener.specs.Opener.{Tied, running_as}
 use Rattle.opener.specs.Plans.{events_in}
 use Rattle.opener.specs.Steps.{Steps}
-use Rattle.opener.specs.Writes.{IsSoundPlan, commits_in, commits_of, first_events, making_of}
+use Rattle.opener.specs.Writes.{IsSoundPlan, commits_in, commits_of, events_of, first_events, making_of}
 use Rattle.opener.specs.declared.calls.Step.{Step}
 use Rattle.opener.specs.declared.plan.Plan.{Plan}
 use Rattle.opener.specs.declared.plan.Plan.TheVariants.{Append, Rewrite}
@@ -30,7 +30,8 @@ use Rattle.opener.proofs.Falling.{few_stores, going_falls, store_shorter}
 use Rattle.opener.proofs.Followed.{followed_tied}
 use Rattle.opener.proofs.Same.{stored_same}
 use Rattle.opener.proofs.StopClauses.{takes_same}
-use Rattle.opener.proofs.Stored.{commits_on, places_on, stored_tied, with_making}
+use Rattle.opener.proofs.Stored.{commits_on, events_on, places_on, stored_tied, with_making}
+use Rattle.opener.proofs.StoresNext.{going_stores}
 use Rattle.opener.proofs.Written.{rewrite_ends, writes}
 
 -- whether events are left
@@ -51,9 +52,9 @@ some_first who running (Rewrite r (Some a) map) sound = sound.0
 module _ {o : OpenerState} {running : Running} {plan : Plan} {result : Step} {new : OpenerState} {s t : ShareState} (tied : Tied (running_as o running (Store plan)) s) (b : Making) (next : Running)
     (more : next ≡ with_stored (next_of (first_events plan)) running) (made : MakesFirst (first_events plan) b.events s t) where
   -- the call goes on with the events that are left
-  pub stores_to : (then : Plan) → commits_in plan ≡ change_of made.0 ++ commits_in then → events_in plan ≡ events_in then + 1 → Tied (running_as o next (Store then)) t → GoesOn next (Store then) o result new →
+  pub stores_to : (then : Plan) → commits_in plan ≡ change_of made.0 ++ commits_in then → events_of plan ≡ made.0 ∷ events_of then → events_in plan ≡ events_in then + 1 → Tied (running_as o next (Store then)) t → GoesOn next (Store then) o result new →
       Steps o running (Store plan) result new s t
-  stores_to then commits fewer left on =
+  stores_to then commits rest fewer left on =
       let lock = stored_same (next_of (first_events plan)) running next more in
       record {
         tied = subst (λ (n : OpenerState). Tied n t) (sym on.1) left;
@@ -63,6 +64,7 @@ module _ {o : OpenerState} {running : Running} {plan : Plan} {result : Step} {ne
         cause = going_cause (Runs running (Store plan)) next (Store then) o result new s t refl on;
         takes = takes_same (Runs running (Store plan)) s t made.2.after.holds;
         acts = going_acts (Store plan) o.image next (Store then) o result new s t (b.events, made, fewer) on;
+        stores = going_stores (Store plan) next (Store then) o result new (made.0, rest) on;
         answer = going_answer next (Store then) o result new _ on;
         place = going_answer next (Store then) o result new _ on;
         image = going_image (Store plan) next (Store then) o o.image result new t (λ looks. absurd cc) on;
@@ -75,7 +77,7 @@ module _ {o : OpenerState} {running : Running} {plan : Plan} {result : Step} {ne
       GoesOn next (Store (with_making plan b)) o result new → Steps o running (Store plan) result new s t
   stores_on stands some owing on =
       let lock = stored_same (next_of (first_events plan)) running next more in
-      stores_to (with_making plan b) (commits_on o.who running next lock.same b made.0 plan made.1) (places_on o.who running next lock.same b made.0 plan made.1)
+      stores_to (with_making plan b) (commits_on o.who running next lock.same b made.0 plan made.1) (events_on b made.0 plan made.1) (places_on o.who running next lock.same b made.0 plan made.1)
       (stored_tied o running next plan b s t tied lock made stands some owing) on
 
 -- after the last event of a rewrite an item is appended, or the call ends
@@ -87,5 +89,5 @@ module _ {o : OpenerState} {running : Running} {r : Making} {map : Map} {result 
   rewrites None tied written = writes o running next (Rewrite r None map) b map s t tied (rewrite_ends o.who running r map) more made stands done owing ended count written
   rewrites (Some a) tied on =
       let only : r.events ≡ made.0 ∷ [] = made.1 ∙ ap (λ l. made.0 ∷ l) done in
-      stores_to tied b next more made (Append a map) (ap (λ l. commits_of l ++ commits_of a.events) only ∙ ap (λ l. l ++ commits_of a.events) (append-nil (change_of made.0))) (omega (arith, ap length only))
+      stores_to tied b next more made (Append a map) (ap (λ l. commits_of l ++ commits_of a.events) only ∙ ap (λ l. l ++ commits_of a.events) (append-nil (change_of made.0))) (ap (λ l. l ++ a.events) only) (omega (arith, ap length only))
       (followed_tied o running next r b a map s t tied (stored_same (next_of r.events) running next more) made stands done owing) on

@@ -140,7 +140,7 @@ module _ (o : OpenerState) (running next : Running) (size : ℕ) (s t : ShareSta
         let can : CanWrite running.call = tied.at.1 in
         let fits = sized_sound i size sound is in
         tied_after (running_as o running Size) (running_as given next (Reserve plan)) s t (loaded s) (λ start past. size ≡ file_size (region_after start past)) tied goes.after refl
-        tied.ended tied.handled (tied.holds ∙ lock) tied.deep tt
+        tied.ended (tied.holds ∙ lock) tied.deep tt
         ((λ some. taken ∙ tied.at.0 some), subst CanWrite (sym same.call) can, (sym lock ∙ tied.at.2.1, planned_reserves o.who running.call running.now j plan can fits is_plan, planned_sound o.who running.call running.now j plan can fits is_plan next same.call same.now, of_call (planned_commits o.who running.call running.now j plan can fits is_plan)))
         (none_reserved s t (loaded s) goes.after tied.owes) told
         (λ start past region lawful lock_is facts e.
@@ -183,7 +183,6 @@ module _ (o : OpenerState) (running next : Running) (size : ℕ) (s t : ShareSta
           lock = refl;
           places = tied.owes;
           who = refl;
-          handled = refl;
           holds = refl;
           sound = tt;
           taken = taken;

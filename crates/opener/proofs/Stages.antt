@@ -42,7 +42,7 @@ pub peeked_tied : (o : OpenerState) (running next : Running) (peek : Peek) (s t 
     Tied (running_as o next (PeekSequence peek)) t
 peeked_tied o running next peek s t tied same taken goes checksum changes =
     tied_after (running_as o running PeekChecksum) (running_as o next (PeekSequence peek)) s t (loaded s)
-    (λ start past. (peek.checksum ≡ checksum_at start past) × (peek.changes ≡ length (changes_of past))) tied goes.after refl tied.ended tied.handled (tied.holds ∙ ap (lock_by o.holds) (sym taken)) tied.deep tied.sound
+    (λ start past. (peek.checksum ≡ checksum_at start past) × (peek.changes ≡ length (changes_of past))) tied goes.after refl tied.ended (tied.holds ∙ ap (lock_by o.holds) (sym taken)) tied.deep tied.sound
     ((λ some. taken ∙ tied.at.0 some), subst IsPlain (sym same.call) tied.at.1, (tied.at.2.0, looks_on running next (lock_by o.holds next.taken) (lock_by o.holds running.taken) same.call (ap (lock_by o.holds) (sym taken)) tied.at.2.1, (λ read. taken ∙ tied.at.2.2 (ap is_write (sym same.call) ∙ read))))
     (none_reserved s t (loaded s) goes.after tied.owes) (told_and t.told _ _ _ (λ h p q. (p, q)) checksum (changes_are t.told peek.changes changes))
     (λ start past region lawful lock facts e. record {
@@ -69,7 +69,7 @@ peeked_tied o running next peek s t tied same taken goes checksum changes =
 pub busy_tied : (o : OpenerState) (running : Running) (stage : Stage) (kind : LockKind) (holder : ℕ) (s t : ShareState) → Tied (running_as o running stage) s →
     is_storing (Runs running stage) ≡ false → Tries kind (Busy holder) s t → Tied (running_as o running stage) t
 busy_tied o running stage kind holder s t tied calm tries =
-    tied_after (running_as o running stage) (running_as o running stage) s t (refused s) (λ start past. ⊤) tied tries.0.after refl tied.ended tied.handled tied.holds tied.deep tied.sound tied.at
+    tied_after (running_as o running stage) (running_as o running stage) s t (refused s) (λ start past. ⊤) tied tries.0.after refl tied.ended tied.holds tied.deep tied.sound tied.at
     (owes_nothing (running_as o running stage) (Runs running stage) t calm
     (none_reserved s t (refused s) tries.0.after (unreserved (running_as o running stage) (Runs running stage) s calm tied.owes))) (nothing_told t.told)
     (λ start past region lawful lock facts e. facts)
@@ -87,6 +87,6 @@ pub loaded_tied : (o : OpenerState) (running next : Running) (old new : Loading)
 loaded_tied o running next old new s t tied same taken going goes told =
     let lock : lock_by o.holds running.taken ≡ lock_by o.holds next.taken = ap (lock_by o.holds) (sym taken) in
     tied_after (running_as o running (Load old)) (running_as o next (Load new)) s t (loaded s) (λ start past. HasLoaded new (region_after start past)) tied goes.after refl
-    tied.ended tied.handled (tied.holds ∙ lock) tied.deep tied.sound
+    tied.ended (tied.holds ∙ lock) tied.deep tied.sound
     ((λ some. taken ∙ tied.at.0 some), subst IsPlain (sym same.call) tied.at.1, (going, (λ none. tied.at.2.1 (lock ∙ none)), looks_on running next _ _ same.call lock tied.at.2.2)) (none_reserved s t (loaded s) goes.after tied.owes) told
     (λ start past region lawful lock_is facts e. record { image = facts.image; rests = λ held. facts.rests (lock ∙ held); work = (omega (arith, same.begun, facts.work.0), e) })

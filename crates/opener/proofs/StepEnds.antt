@@ -21,7 +21,7 @@ use Rattle.opener.specs.Counted.{counted}
 use Rattle.opener.specs.Ends.{answer_of, GoesOn, IsDone, IsReady, Leaves, Replies, Waits, lock_by}
 use Rattle.opener.specs.Opener.{Tied, HasCause, IsAnswer, LooksUnder, KeepsCall, MayEnd, OnAnswer, is_storing, running_as, stop_found}
 use Rattle.opener.specs.Fresh.{CountedBy, CountsNone, CountsSoFar, HasCounted, answers_by_look}
-use Rattle.opener.specs.Steps.{ActsAt, IsKeptBy, IsPlaceOf, IsStillKept, KeepsImage, Steps, peek_of}
+use Rattle.opener.specs.Steps.{ActsAt, IsKeptBy, IsPlaceOf, IsStillKept, KeepsImage, LeavesStores, Steps, peek_of}
 use Rattle.opener.specs.declared.calls.Step.{Step}
 use Rattle.opener.specs.declared.calls.Step.TheVariants as step
 use Rattle.opener.specs.declared.work.Running.{Running}
@@ -41,6 +41,7 @@ use Rattle.opener.proofs.Stages.{busy_tied}
 use Rattle.opener.proofs.StopClauses.{failed_stops, same_call, stopped_answer, stopped_call, stopped_acts, stopped_cause, stopped_image, stopped_makes, stopped_takes, takes_same, tried_cause, tried_makes, tried_takes}
 use Rattle.opener.proofs.Stopped.{stopped_tied, tried_tied}
 use Rattle.opener.proofs.Storing.{StoresNothing, calm_stored}
+use Rattle.opener.proofs.StoresNext.{done_stores, going_stores, leaves_stores, ready_stores, stopped_stores, waits_stores}
 
 -- a stage at which nothing is stored or made yet, and no stop was found
 pub record IsEarly (who : ℕ) (running : Running) (stage : Stage) : Type 0 where
@@ -70,6 +71,7 @@ module _ {o : OpenerState} {running : Running} {stage : Stage} {result : Step} {
         cause = stopped_cause stop o running stage result new s t after why;
         takes = stopped_takes (Runs running stage) stop s t why;
         acts = stopped_acts stop o running stage result new s t after;
+        stores = stopped_stores stop o running stage result new after;
         answer = stopped_answer stop o running stage result new _ after;
         place = stopped_answer stop o running stage result new _ after;
         image = stopped_image stop o running stage result new t after;
@@ -93,6 +95,7 @@ module _ {o : OpenerState} {running : Running} {stage : Stage} {result : Step} {
         cause = tried_cause kind stop o running stage result new s t early.seeks tried after why;
         takes = tried_takes (Runs running stage) kind stop s t why;
         acts = stopped_acts stop o running stage result new s t after;
+        stores = stopped_stores stop o running stage result new after;
         answer = stopped_answer stop o running stage result new _ after;
         place = stopped_answer stop o running stage result new _ after;
         image = stopped_image stop o running stage result new t after;
@@ -112,6 +115,7 @@ module _ {o : OpenerState} {running : Running} {stage : Stage} {result : Step} {
         cause = subst (λ r. HasCause (Runs running stage) r new.work s t) (sym on.0) (kind, tried, tries);
         takes = takes_same (Runs running stage) s t tries.0.after.holds;
         acts = subst (λ r. ActsAt r stage o.image new.work s t) (sym on.0) tt;
+        stores = waits_stores stage running holder o result new early.calm on;
         answer = subst (λ r. OnAnswer r (λ a. OnTold t.told (λ h. IsAnswer a h.start h.past))) (sym on.0) tt;
         place = subst (λ r. OnAnswer r (λ a. OnTold t.told (λ h. IsPlaceOf (peek_of stage) a))) (sym on.0) tt;
         image = subst (λ r. KeepsImage r stage o.image new t) (sym on.0) (ap (λ (n : OpenerState). n.image) on.1);
@@ -138,6 +142,7 @@ module _ {o : OpenerState} {running : Running} {stage : Stage} {result : Step} {
         cause = subst (λ r. HasCause (Runs running stage) r new.work s t) (sym done.0) tt;
         takes = λ kind none some. tried kind (did.takes kind none some);
         acts = subst (λ r. ActsAt r stage o.image new.work s t) (sym done.0) (carried (answer_of o.who next place place Done));
+        stores = done_stores stage next holds place o result new done;
         answer = subst (λ r. OnAnswer r (λ a. OnTold t.told (λ h. IsAnswer a h.start h.past))) (sym done.0) answer;
         place = subst (λ r. OnAnswer r (λ a. OnTold t.told (λ h. IsPlaceOf (peek_of stage) a))) (sym done.0) (always_told t.told (λ h. IsPlaceOf (peek_of stage) (answer_of o.who next place place Done)) (λ h. at));
         image = subst (λ r. KeepsImage r stage o.image new t) (sym done.0)
@@ -153,8 +158,8 @@ module _ {o : OpenerState} {running : Running} {stage : Stage} {result : Step} {
     -- the call goes on
     pub goes_on : (loads : ℕ) (lock : Option LockKind) → Quietly loads lock s t → ((kind : LockKind) → lock ≡ Some kind → IsTried (Runs running stage) kind) → (to : Stage) → mid.holds ≡ o.holds → SameCall running next →
         IsRaised running loads 0 (locks_taken None lock) next.loads next.stores next.locks → ActsAt step.Going stage o.image (Runs next to) s t → IsStillKept (Runs next to) mid.image stage o.image → (HasCounted stage running → HasCounted to next) → GoesOn next to mid result new → stop_found (Runs next to) ≡ None →
-        ((so_far : List Change) → AreMadeAt o.who running stage so_far → AreMadeAt o.who next to so_far) → Tied (running_as mid next to) t → Shortens (Runs running stage) (Runs next to) t → Steps o running stage result new s t
-    goes_on loads lock did tried to holds same more carried keeps counted on none made then short =
+        ((so_far : List Change) → AreMadeAt o.who running stage so_far → AreMadeAt o.who next to so_far) → Tied (running_as mid next to) t → Shortens (Runs running stage) (Runs next to) t → LeavesStores step.Going stage (Runs next to) → Steps o running stage result new s t
+    goes_on loads lock did tried to holds same more carried keeps counted on none made then short storing =
         record {
           tied = subst (λ (n : OpenerState). Tied n t) (sym on.1) then;
           makes = did.makes;
@@ -164,6 +169,7 @@ module _ {o : OpenerState} {running : Running} {stage : Stage} {result : Step} {
           cause = going_cause (Runs running stage) next to mid result new s t none on;
           takes = λ kind none some. tried kind (did.takes kind none some);
           acts = going_acts stage o.image next to mid result new s t carried on;
+          stores = going_stores stage next to mid result new storing on;
           answer = going_answer next to mid result new _ on;
           place = going_answer next to mid result new _ on;
           image = going_image stage next to mid o.image result new t keeps on;
@@ -186,6 +192,7 @@ module _ {o : OpenerState} {running : Running} {stage : Stage} {result : Step} {
           cause = leaves_cause (Runs running stage) next how ended mid result new s t none reason left;
           takes = λ kind none some. absurd (no_kind (did.takes kind none some));
           acts = leaves_acts stage o.image next how ended mid result new s t goes answers left;
+          stores = leaves_stores stage next how ended mid result new left;
           answer = leaves_answer (peek_of stage) mid next t how ended result new count told left;
           place = leaves_place (peek_of stage) mid next t how ended result new count told left;
           image = leaves_image stage mid next o.image t how ended result new keeps told left;
@@ -196,16 +203,16 @@ module _ {o : OpenerState} {running : Running} {stage : Stage} {result : Step} {
     -- a load was made, and the call goes on
     pub loads_on : (to : Stage) → mid.holds ≡ o.holds → Goes (loaded s) s t → next ≡ record running { loads = counted (running.loads + 1) } →
         ActsAt step.Going stage o.image (Runs next to) s t → IsStillKept (Runs next to) mid.image stage o.image → (HasCounted stage running → HasCounted to next) → GoesOn next to mid result new → stop_found (Runs next to) ≡ None → ((so_far : List Change) → AreMadeAt o.who running stage so_far → AreMadeAt o.who next to so_far) →
-        Tied (running_as mid next to) t → Shortens (Runs running stage) (Runs next to) t → Steps o running stage result new s t
-    loads_on to holds goes more carried keeps counted on none made then short =
-        goes_on 1 None (load_quietly goes) (λ kind some. absurd (no_kind some)) to holds (loaded_same running next more).same (load_more running next more) carried keeps counted on none made then short
+        Tied (running_as mid next to) t → Shortens (Runs running stage) (Runs next to) t → LeavesStores step.Going stage (Runs next to) → Steps o running stage result new s t
+    loads_on to holds goes more carried keeps counted on none made then short storing =
+        goes_on 1 None (load_quietly goes) (λ kind some. absurd (no_kind some)) to holds (loaded_same running next more).same (load_more running next more) carried keeps counted on none made then short storing
 
     -- a lock was taken, and the call goes on
     pub locks_on : (kind : LockKind) → IsTried (Runs running stage) kind → (to : Stage) → mid.holds ≡ o.holds → s.holds ≡ None → Tries kind Taken s t → next ≡ record running { taken = Some kind; locks = counted (running.locks + 1) } →
         ActsAt step.Going stage o.image (Runs next to) s t → IsStillKept (Runs next to) mid.image stage o.image → (HasCounted stage running → HasCounted to next) → GoesOn next to mid result new → stop_found (Runs next to) ≡ None → ((so_far : List Change) → AreMadeAt o.who running stage so_far → AreMadeAt o.who next to so_far) →
-        Tied (running_as mid next to) t → Shortens (Runs running stage) (Runs next to) t → Steps o running stage result new s t
-    locks_on kind tried to holds free tries more carried keeps counted on none made then short =
-        goes_on 0 (Some kind) (lock_quietly kind tries.0 free) (λ k is. tried ∙ is) to holds (locked_same running next kind more).0 (lock_more kind running next more) carried keeps counted on none made then short
+        Tied (running_as mid next to) t → Shortens (Runs running stage) (Runs next to) t → LeavesStores step.Going stage (Runs next to) → Steps o running stage result new s t
+    locks_on kind tried to holds free tries more carried keeps counted on none made then short storing =
+        goes_on 0 (Some kind) (lock_quietly kind tries.0 free) (λ k is. tried ∙ is) to holds (locked_same running next kind more).0 (lock_more kind running next more) carried keeps counted on none made then short storing
 
     -- a load was made, and the call leaves
     pub loads_leave : (how : End) (ended : ℕ) → Leaving o mid running next s t → Goes (loaded s) s t → next ≡ record running { loads = counted (running.loads + 1) } → IsPlain running.call →
@@ -235,6 +242,7 @@ module _ {o : OpenerState} {running : Running} {stage : Stage} {result : Step} {
           cause = ready_cause o mid i running next stage place ended result new s t tied is kept same looks told none ready;
           takes = takes_same (Runs running stage) s t goes.after.holds;
           acts = ready_acts o mid i running next stage place ended result new s t tied is kept same looks told sizes unlocks answers ready;
+          stores = ready_stores stage next place ended mid result new ready;
           answer = ready_answer o mid i running next stage place ended result new s t tied is kept same looks told count ready;
           place = ready_place o mid i running next stage place ended result new s t tied is kept same looks told count ready;
           image = ready_image o mid i running next stage place ended result new s t tied is kept same looks told keeps ready;

@@ -46,9 +46,9 @@ pub stopped_call : (stop : ShareStop) (o : OpenerState) (running : Running) (sta
 stopped_call Turn o running stage result new after =
     subst (λ r. KeepsCall o.who o.holds running r new) (sym after.0)
     (subst (λ (n : OpenerState). KeepsCall o.who o.holds running step.Again n) (sym after.1) (same_call running, refl))
-stopped_call Failed o running stage result new after = subst (λ r. KeepsCall o.who o.holds running r new) (sym after.0) (after.5, after.3)
-stopped_call Memory o running stage result new after = subst (λ r. KeepsCall o.who o.holds running r new) (sym after.0) (after.1.4, after.1.2)
-stopped_call JournalFull o running stage result new after = subst (λ r. KeepsCall o.who o.holds running r new) (sym after.0) (after.1.4, after.1.2)
+stopped_call Failed o running stage result new after = subst (λ r. KeepsCall o.who o.holds running r new) (sym after.0) (after.4, after.2)
+stopped_call Memory o running stage result new after = subst (λ r. KeepsCall o.who o.holds running r new) (sym after.0) (after.1.3, after.1.1)
+stopped_call JournalFull o running stage result new after = subst (λ r. KeepsCall o.who o.holds running r new) (sym after.0) (after.1.3, after.1.1)
 
 -- nothing is answered
 pub stopped_answer : (stop : ShareStop) (o : OpenerState) (running : Running) (stage : Stage) (result : Step) (new : OpenerState) (P : Answer → Type 0) →
@@ -123,6 +123,6 @@ stopped_acts JournalFull o running stage result new s t after = subst (λ r. Act
 pub stopped_image : (stop : ShareStop) (o : OpenerState) (running : Running) (stage : Stage) (result : Step) (new : OpenerState) (t : ShareState) → AfterStop stop o running stage result new →
     KeepsImage result stage o.image new t
 stopped_image Turn o running stage result new t after = subst (λ r. KeepsImage r stage o.image new t) (sym after.0) (ap (λ (n : OpenerState). n.image) after.1)
-stopped_image Failed o running stage result new t after = subst (λ r. KeepsImage r stage o.image new t) (sym after.0) after.4
-stopped_image Memory o running stage result new t after = subst (λ r. KeepsImage r stage o.image new t) (sym after.0) after.1.3
-stopped_image JournalFull o running stage result new t after = subst (λ r. KeepsImage r stage o.image new t) (sym after.0) after.1.3
+stopped_image Failed o running stage result new t after = subst (λ r. KeepsImage r stage o.image new t) (sym after.0) after.3
+stopped_image Memory o running stage result new t after = subst (λ r. KeepsImage r stage o.image new t) (sym after.0) after.1.2
+stopped_image JournalFull o running stage result new t after = subst (λ r. KeepsImage r stage o.image new t) (sym after.0) after.1.2

@@ -51,13 +51,13 @@ owes_turned o (Runs running stage.Release) s t owes away = none_reserved s t (tu
 -- the opener waits for its turn
 turned_tied : (o : OpenerState) (s t : ShareState) → Tied o s → IsTurnedAway s t → Tied o t
 turned_tied o s t tied away =
-    tied_after o o s t (turned_away s) (λ start past. ⊤) tied away.after refl tied.ended tied.handled tied.holds tied.deep tied.sound tied.at (owes_turned o o.work s t tied.owes away) (nothing_told t.told)
+    tied_after o o s t (turned_away s) (λ start past. ⊤) tied away.after refl tied.ended tied.holds tied.deep tied.sound tied.at (owes_turned o o.work s t tied.owes away) (nothing_told t.told)
     (λ start past region lawful lock facts e. facts)
 
 -- it is dead
 pub failed_tied : (o : OpenerState) (s t : ShareState) → Tied o s → Fails s t → Tied (ended_as o.who) t
 failed_tied o s t tied fails =
-    tied_after o (ended_as o.who) s t (failed s) (λ start past. ⊤) tied fails.after refl refl refl refl (lit≤ tt) tt refl (none_reserved s t (failed s) fails.after refl) (nothing_told t.told)
+    tied_after o (ended_as o.who) s t (failed s) (λ start past. ⊤) tied fails.after refl refl refl (lit≤ tt) tt refl (none_reserved s t (failed s) fails.after refl) (nothing_told t.told)
     (λ start past region lawful lock facts e. record { image = tt; rests = λ held. absurd cc; work = tt })
 
 -- it gives its call up, where it holds what its holds take
@@ -68,21 +68,21 @@ idle_tied : (o : OpenerState) (running : Running) (stage : Stage) (s t : ShareSt
     Goes (unmoved s) s t → running.taken ≡ None → Tied (idle_as o) t
 idle_tied o running stage s t tied calm goes free =
     let lock : lock_by o.holds running.taken ≡ lock_by o.holds None = ap (lock_by o.holds) free in
-    tied_after (running_as o running stage) (idle_as o) s t (unmoved s) (λ start past. ⊤) tied goes.after refl tied.ended tied.handled (tied.holds ∙ lock) tied.deep tt tt
+    tied_after (running_as o running stage) (idle_as o) s t (unmoved s) (λ start past. ⊤) tied goes.after refl tied.ended (tied.holds ∙ lock) tied.deep tt tt
     (none_reserved s t (unmoved s) goes.after (unreserved (running_as o running stage) (Runs running stage) s calm tied.owes)) (nothing_told t.told)
     (λ start past region lawful mine facts e. record { image = tt; rests = λ held rest. facts.rests (lock ∙ held) calm; work = tt })
 
-dead_is : (o new : OpenerState) → new.who ≡ o.who → new.handled ≡ false → new.holds ≡ 0 → new.image ≡ None → new.work ≡ Ended → new ≡ ended_as o.who
-dead_is o new who handled holds image work = λ i. record { who = who i; handled = handled i; image = image i; holds = holds i; work = work i }
+dead_is : (o new : OpenerState) → new.who ≡ o.who → new.holds ≡ 0 → new.image ≡ None → new.work ≡ Ended → new ≡ ended_as o.who
+dead_is o new who holds image work = λ i. record { who = who i; image = image i; holds = holds i; work = work i }
 
-given_up_is : (o new : OpenerState) → new.who ≡ o.who → new.handled ≡ o.handled → new.holds ≡ o.holds → new.image ≡ None → new.work ≡ Idle → new ≡ idle_as o
-given_up_is o new who handled holds image work = λ i. record { who = who i; handled = handled i; image = image i; holds = holds i; work = work i }
+given_up_is : (o new : OpenerState) → new.who ≡ o.who → new.holds ≡ o.holds → new.image ≡ None → new.work ≡ Idle → new ≡ idle_as o
+given_up_is o new who holds image work = λ i. record { who = who i; image = image i; holds = holds i; work = work i }
 
 pub stopped_tied : (o : OpenerState) (running : Running) (stage : Stage) (why : ShareStop) (result : Step) (new : OpenerState) (s t : ShareState) →
     Tied (running_as o running stage) s → AfterStop why o running stage result new → Stops why s t → Tied new t
 stopped_tied o running stage Turn result new s t tied after stops = subst (λ (n : OpenerState). Tied n t) (sym after.1) (turned_tied (running_as o running stage) s t tied stops)
 stopped_tied o running stage Failed result new s t tied after stops =
-    subst (λ (n : OpenerState). Tied n t) (sym (dead_is o new after.1 after.2 after.3 after.4 after.5)) (failed_tied (running_as o running stage) s t tied stops)
+    subst (λ (n : OpenerState). Tied n t) (sym (dead_is o new after.1 after.2 after.3 after.4)) (failed_tied (running_as o running stage) s t tied stops)
 stopped_tied o running stage Memory result new s t tied after stops = absurd stops
 stopped_tied o running stage JournalFull result new s t tied after stops = absurd stops
 
@@ -92,8 +92,8 @@ pub tried_tied : (o : OpenerState) (running : Running) (stage : Stage) (kind : L
     AfterStop why o running stage result new → StopsTrying kind why s t → Tied new t
 tried_tied o running stage kind Turn result new s t tied calm free after stops = subst (λ (n : OpenerState). Tied n t) (sym after.1) (turned_tied (running_as o running stage) s t tied stops)
 tried_tied o running stage kind Failed result new s t tied calm free after stops =
-    subst (λ (n : OpenerState). Tied n t) (sym (dead_is o new after.1 after.2 after.3 after.4 after.5)) (failed_tied (running_as o running stage) s t tied stops)
+    subst (λ (n : OpenerState). Tied n t) (sym (dead_is o new after.1 after.2 after.3 after.4)) (failed_tied (running_as o running stage) s t tied stops)
 tried_tied o running stage kind Memory result new s t tied calm free after stops =
-    subst (λ (n : OpenerState). Tied n t) (sym (given_up_is o new after.1.0 after.1.1 after.1.2 after.1.3 after.1.4)) (idle_tied o running stage s t tied calm stops.0 free)
+    subst (λ (n : OpenerState). Tied n t) (sym (given_up_is o new after.1.0 after.1.1 after.1.2 after.1.3)) (idle_tied o running stage s t tied calm stops.0 free)
 tried_tied o running stage kind JournalFull result new s t tied calm free after stops =
-    subst (λ (n : OpenerState). Tied n t) (sym (given_up_is o new after.1.0 after.1.1 after.1.2 after.1.3 after.1.4)) (idle_tied o running stage s t tied calm stops.0 free)
+    subst (λ (n : OpenerState). Tied n t) (sym (given_up_is o new after.1.0 after.1.1 after.1.2 after.1.3)) (idle_tied o running stage s t tied calm stops.0 free)

@@ -19,10 +19,11 @@ use Rattle.region_words.proofs.Held.{Apart-front}
 use Rattle.opener.specs.State.{OpenerState}
 use Rattle.opener.specs.Continues.{SameCall}
 use Rattle.opener.specs.Ends.{lock_by}
+use Rattle.opener.proofs.UnderWay.{under_way_on}
 use Rattle.opener.specs.Opener.{Tied, running_as}
 use Rattle.loader.specs.PartialLoads.{IsSoundImage, IsSoundStanding}
 use Rattle.opener.specs.Plans.{CanWrite, events_in}
-use Rattle.opener.specs.Writes.{IsOwn, Follows, IsSoundPlan, IsRowOf, HasStanding, Leads, PlanLeads, HasMadeSoFar, OwesPlan, commits_of, commits_in, first_events, making_of}
+use Rattle.opener.specs.Writes.{IsOwn, Follows, IsSoundPlan, IsRowOf, HasStanding, Leads, PlanLeads, HasMadeSoFar, OwesPlan, commits_of, commits_in, events_of, first_events, making_of}
 use Rattle.opener.specs.declared.plan.Plan.{Plan}
 use Rattle.opener.specs.declared.plan.Plan.TheVariants.{Append, Rewrite}
 use Rattle.opener.specs.declared.work.Running.{Running}
@@ -56,6 +57,12 @@ lead_next k b m start past who first is same leads =
 -- the same call
 pub own_on : (who : ℕ) (running next : Running) (change : Change) → SameCall running next → IsOwn who running change → IsOwn who next change
 own_on who running next change same own = record { act = (λ i. act_of (same.call i) (same.now i)) ∙ own.act; maker = own.maker }
+
+-- the events that are left
+pub events_on : (b : Making) (first : What) (plan : Plan) → first_events plan ≡ first ∷ b.events → events_of plan ≡ first ∷ events_of (with_making plan b)
+events_on b first (Append a map) is = is
+events_on b first (Rewrite r None map) is = is
+events_on b first (Rewrite r (Some a) map) is = ap (λ l. l ++ a.events) is
 
 pub follows_on : (who : ℕ) (running next : Running) (s : Standing) (a : Making) (change : Change) → SameCall running next → Follows who running s a change → Follows who next s a change
 follows_on who running next s a change same f = record { own = own_on who running next change same f.own; can = f.can; is = f.is }
@@ -134,7 +141,7 @@ pub stored_tied : (o : OpenerState) (running next : Running) (plan : Plan) (b : 
 stored_tied o running next plan b s t tied lock (first, is, goes) stands some owing =
     let same = lock.same in
     let held : lock_by o.holds next.taken ≡ lock_by o.holds running.taken = ap (lock_by o.holds) lock.taken in
-    tied_after (running_as o running (Store plan)) (running_as o next (Store (with_making plan b))) s t (stored first s) (λ start past. ⊤) tied goes.after refl tied.ended tied.handled (tied.holds ∙ sym held) tied.deep tied.sound
+    tied_after (running_as o running (Store plan)) (running_as o next (Store (with_making plan b))) s t (stored first s) (λ start past. ⊤) tied goes.after refl tied.ended (tied.holds ∙ sym held) tied.deep tied.sound
     ((λ some. lock.taken ∙ tied.at.0 some), subst CanWrite (sym same.call) tied.at.1, (held ∙ tied.at.2.0, sound_on o.who running next same b first plan stands some tied.at.2.1))
     (owes_on o.who running next same b first plan s t is stands goes.after owing tied.owes) (nothing_told t.told)
     (λ start past region lawful mine facts e. record {
@@ -145,6 +152,7 @@ stored_tied o running next plan b s t tied lock (first, is, goes) stands some ow
         (
           leads_next o.who running next same b first plan start past s.who is stands facts.work.1.0,
           made_on o.who running next same b first plan (with_making plan b) past s.who (commits_on o.who running next same b first plan is) facts.work.1.1,
+          under_way_on o.who running start next same plan (with_making plan b) past s.who first tied.who (events_on b first plan is) facts.work.1.2,
         ),
       );
     })

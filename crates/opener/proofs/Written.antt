@@ -49,6 +49,7 @@ use Rattle.opener.proofs.Followed.{RowOver, row_over}
 use Rattle.opener.proofs.Leaves.{LeftWith, Leaving, leaves_answer, leaves_image, leaves_place, leaves_tied}
 use Rattle.opener.proofs.Reserved.{is_written, write_plain}
 use Rattle.opener.proofs.RowEnds.{row_ended, row_is_shown, shown_matches}
+use Rattle.opener.proofs.StoresNext.{leaves_stores}
 use Rattle.opener.proofs.Same.{SameLock, stored_same}
 use Rattle.opener.proofs.StopClauses.{takes_same}
 use Rattle.opener.proofs.Stored.{lead_next, made_on}
@@ -196,7 +197,6 @@ module _ (o : OpenerState) (running next : Running) (plan : Plan) (b : Making) (
         lock = refl;
         places = last_place;
         who = refl;
-        handled = refl;
         holds = refl;
         sound = subst (λ z. IsSoundImage (record { standing = z; map = m })) (sym stands) (last.sound tied.at.2.1);
         taken = lock.taken;
@@ -215,6 +215,7 @@ module _ (o : OpenerState) (running next : Running) (plan : Plan) (b : Making) (
         cause = leaves_cause (Runs running (stage.Store plan)) next how ended mid result new s t refl tt written;
         takes = takes_same (Runs running (stage.Store plan)) s t after.holds;
         acts = let stores : StoresFirst plan 0 s t = (b.events, made, omega (arith, last.many, ap length only)) in leaves_acts (stage.Store plan) o.image next how ended mid result new s t stores (λ a. stores) written;
+        stores = leaves_stores (stage.Store plan) next how ended mid result new written;
         answer = leaves_answer None mid next t how ended result new count left written;
         place = leaves_place None mid next t how ended result new count left written;
         image = leaves_image (stage.Store plan) mid next o.image t how ended result new (λ looks. absurd cc) left written;

@@ -19,13 +19,13 @@ use Rattle.opener.specs.Plans.{CanWrite}
 
 -- the opener keeps no image and runs no call
 abbrev pub IsGivenUp : OpenerState → OpenerState → Type 0
-IsGivenUp old new = (new.who ≡ old.who) × (new.handled ≡ old.handled) × (new.holds ≡ old.holds) × (new.image ≡ None) × (new.work ≡ Idle)
+IsGivenUp old new = (new.who ≡ old.who) × (new.holds ≡ old.holds) × (new.image ≡ None) × (new.work ≡ Idle)
 
 -- the opener after a call on its share that was not answered
 abbrev pub AfterStop : ShareStop → OpenerState → Running → Stage → Step → OpenerState → Type 0
 AfterStop stop.Turn old running stage result new = (result ≡ step.Again) × (new ≡ record old { work = Runs running stage })
 AfterStop stop.Failed old running stage result new =
-    (result ≡ step.Stopped why.Fault) × (new.who ≡ old.who) × (new.handled ≡ false) × (new.holds ≡ 0) × (new.image ≡ None) × (new.work ≡ Ended)
+    (result ≡ step.Stopped why.Fault) × (new.who ≡ old.who) × (new.holds ≡ 0) × (new.image ≡ None) × (new.work ≡ Ended)
 AfterStop stop.Memory old running stage result new = (result ≡ step.Stopped why.Memory) × IsGivenUp old new
 AfterStop stop.JournalFull old running stage result new = (result ≡ step.Stopped why.JournalFull) × IsGivenUp old new
 

@@ -10,10 +10,10 @@ pub mod Writes
 pub mod Adds
 pub mod Bound
 pub mod Opener
+pub mod Handled
 pub mod Settles
 pub mod Quiet
 pub mod Quick
-pub mod Lent
 pub mod Fresh
 pub mod Steps
 pub mod Refused

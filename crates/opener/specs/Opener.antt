@@ -1,5 +1,5 @@
 -- An opener and the share that it uses.
-use Rattle.std.specs.Prelude.{◌≡◌, ◌≢◌, ℕ, ◌+◌, ◌<◌, ◌≤◌, ◌⊎◌, Bool, true, false, not, List, ◌++◌, length, take, slice_get, Option, Some, None, IfSome, Err, ⊤}
+use Rattle.std.specs.Prelude.{◌≡◌, ◌≢◌, ℕ, ◌+◌, ◌<◌, ◌≤◌, ◌⊎◌, Bool, true, false, List, [], ◌∷◌, ◌++◌, ◌==◌, if◌then◌else◌, length, take, slice_get, Option, Some, None, IfSome, Err, ⊤}
 use Rattle.change_log.specs.Acts.{act_of, replay}
 use Rattle.change_log.specs.History.{reply_in, IsMade}
 use Rattle.change_log.specs.Settled.{AreOfCall}
@@ -15,7 +15,7 @@ use Rattle.lock_rules.specs.declared.table.LockKind.{LockKind}
 use Rattle.lock_rules.specs.declared.table.LockKind.TheVariants.{Exclusive}
 use Rattle.lock_rules.specs.declared.table.Tried.TheVariants.{Busy}
 use Rattle.region_words.specs.Region.{Region, IsAccepted, record_of, header, base, shown, file_size}
-use Rattle.region_words.specs.Past.{region_after, changes_of}
+use Rattle.region_words.specs.Past.{region_after, changes_of, locks_after}
 use Rattle.region_words.specs.Apart.{Apart}
 use Rattle.region_words.specs.Lawful.{Between, Reaches, map_after}
 use Rattle.region_words.specs.Outcome.{AtRest}
@@ -23,8 +23,9 @@ use Rattle.region_words.specs.Rows.{standing}
 use Rattle.region_words.specs.Images.{IsKept, checksum_at, sequence_at}
 use Rattle.region_words.specs.Standings.{IsStandingOf}
 use Rattle.region_words.specs.Told.{History, OnTold}
-use Rattle.region_words.specs.Share.{ShareState, Agrees, After, Left, Fails, IsTurnedAway, Tries, StopsTrying, StopsReserving}
+use Rattle.region_words.specs.Share.{ShareState, Agrees, After, Left, Fails, IsTurnedAway, Tries, StopsTrying, StopsReserving, lock_of}
 use Rattle.region_words.specs.declared.event.Event.{Event}
+use Rattle.region_words.specs.declared.event.What.{What}
 use Rattle.region_words.specs.declared.stops.Peek.{Peek}
 use Rattle.region_words.specs.declared.stops.ShareStop.TheVariants as stop
 use Rattle.loader.specs.Loads.{HasLoaded, is_done, loads_of}
@@ -38,7 +39,7 @@ use Rattle.loader.specs.PartialLoads.{HasLoadedPart, IsGoing, IsSoundImage, kept
 use Rattle.opener.specs.Plans.{CanWrite, IsPlanOf, events_in, refusal_of}
 use Rattle.opener.specs.declared.plan.Plan.{Plan}
 use Rattle.opener.specs.State.{OpenerState}
-use Rattle.opener.specs.Writes.{CanReserve, IsSoundPlan, PlanLeads, PlanStarts, HasMadeSoFar, OwesPlan, commits_in}
+use Rattle.opener.specs.Writes.{CanReserve, IsSoundPlan, PlanLeads, PlanStarts, HasMadeSoFar, OwesPlan, commits_in, events_of}
 use Rattle.opener.specs.declared.calls.Step.{Step}
 use Rattle.opener.specs.declared.calls.Step.TheVariants as step
 use Rattle.opener.specs.declared.calls.Stop.{Stop}
@@ -215,6 +216,23 @@ image_at start past = record { standing = standing (region_after start past); ma
 abbrev pub PlanIs : ℕ → Running → Plan → Region → List Event → Type 0
 PlanIs who running plan start past = IsAccepted start → Apart start past → IsPlanOf who running.call running.now (image_at start past) plan
 
+-- the events of one opener among these, the first of them first
+abbrev pub made_among : ℕ → List Event → List What
+made_among who [] = []
+made_among who (e ∷ later) = made_among who later ++ (if e.who == who then e.what ∷ [] else [])
+
+-- The stores under way are those of a plan that the call made at an earlier moment, as its opener held the lock exclusive: it has made the
+-- first events of that plan since, and no others, and these are left.
+pub record IsUnderWay (who : ℕ) (running : Running) (plan : Plan) (start : Region) (past : List Event) : Type 0 where
+  pub later : List Event
+  pub earlier : List Event
+  pub is : later ++ earlier ≡ past
+  pub since : running.begun ≤ length (changes_of earlier)
+  pub held : lock_of (locks_after earlier) who ≡ Some Exclusive
+  pub whole : Plan
+  pub planned : PlanIs who running whole start earlier
+  pub rest : events_of whole ≡ made_among who later ++ events_of plan
+
 -- what each stage knows of the journal
 abbrev pub StageIs : OpenerState → Running → Stage → Region → List Event → Type 0
 StageIs o running (PeekSequence peek) start past =
@@ -223,7 +241,7 @@ StageIs o running (Continue loading) start past = HasLoadedPart loading (region_
 StageIs o running (Load loading) start past = HasLoaded loading (region_after start past)
 StageIs o running Size start past = OnImage o.image (λ i. IsAccepted start → Apart start past → IsShown i start past)
 StageIs o running (Reserve plan) start past = PlanStarts o.who running plan start past × PlanLeads plan start past × PlanIs o.who running plan start past
-StageIs o running (Store plan) start past = PlanLeads plan start past × HasMadeSoFar o.who running plan past
+StageIs o running (Store plan) start past = PlanLeads plan start past × HasMadeSoFar o.who running plan past × IsUnderWay o.who running plan start past
 StageIs o running (Unlock how) start past = EndIs o.who how running start past × EndsNow o.image how running start past
 StageIs o running _ start past = ⊤
 
@@ -251,12 +269,11 @@ abbrev pub Owes : OpenerState → Work → ShareState → Type 0
 Owes o (Runs running (Store plan)) s = OwesPlan o.who running plan s
 Owes o _ s = s.reserved s.who ≡ 0
 
--- the share stands as the opener's last call left it; until its end the opener has its handler
+-- the share stands as the opener's last call left it
 pub record Tied (o : OpenerState) (s : ShareState) : Type 0 where
   pub who : s.who ≡ o.who
   pub maker : (1 ≤ o.who) × (o.who ≤ MOST_OPENERS)
   pub ended : s.ended ≡ is_ended o.work
-  pub handled : o.handled ≡ not (is_ended o.work)
   pub holds : s.holds ≡ lock_in o.holds o.work
   pub deep : o.holds ≤ MOST_HOLDS
   pub sound : OnImage o.image IsSoundImage

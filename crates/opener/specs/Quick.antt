@@ -12,6 +12,7 @@ use Rattle.region_words.specs.Share.{ShareState, Goes, Fails, loaded}
 use Rattle.region_words.specs.declared.event.Event.{Event}
 use Rattle.loader.specs.Maps.{map_of_image}
 use Rattle.loader.specs.declared.loaded.Image.{Image}
+use Rattle.opener.specs.Ends.{OnImage}
 use Rattle.opener.specs.declared.quick.Quick.{Quick}
 use Rattle.opener.specs.declared.quick.Quick.TheVariants.{Cold, Stale, Fault}
 use Rattle.opener.specs.declared.work.Work.TheVariants.{Ended}
@@ -19,7 +20,7 @@ use Rattle.opener.specs.State.{OpenerState}
 
 -- the opener of this number once its share has failed
 abbrev pub ended_as : ℕ → OpenerState
-ended_as who = record { who = who; handled = false; image = None; holds = 0; work = Ended }
+ended_as who = record { who = who; image = None; holds = 0; work = Ended }
 
 -- a fault ends the opener; else it stays as it was
 abbrev pub left_by : {A : Type 0} → Result A Quick → OpenerState → OpenerState
@@ -64,6 +65,12 @@ pub record IsAnswered (image : Option Image) (value : Option (List ℕ)) (key : 
   pub peeks : Peeks i.standing.checksum i.standing.sequence s t
   pub value_is : value ≡ value_at (map_of_image i) key now
   pub history : OnTold t.told (λ h. WasValue value key now (changes_told s.told) (changes_told peeks.mid.told) h.start h.past)
+
+-- after a look that found the kept image's words, the value of that image is an answer
+abbrev pub KeptValuesAnswer : Type 0
+KeptValuesAnswer =
+    (image : Option Image) (value : Option (List ℕ)) (key : List ℕ) (now : ℕ) (s t : ShareState) → IsUpToDate image s t →
+    OnImage image (λ i. value ≡ value_at (map_of_image i) key now) → IsAnswered image value key now s t
 
 -- an image is kept, both words were peeked, and at least one is not its own
 pub record IsStale (image : Option Image) (checksum sequence : ℕ) (s t : ShareState) : Type 0 where

@@ -1,5 +1,5 @@
 -- What a step of a call comes to.
-use Rattle.std.specs.Prelude.{◌≡◌, ℕ, ◌+◌, Bool, true, false, List, Option, Some, None, ⊤}
+use Rattle.std.specs.Prelude.{◌≡◌, ℕ, ◌+◌, Bool, true, false, List, ◌∷◌, Option, Some, None, ⊤}
 use Rattle.change_log.specs.declared.call.Answer.{Answer}
 use Rattle.lock_rules.specs.declared.table.LockKind.{LockKind}
 use Rattle.region_words.specs.Region.{IsAccepted}
@@ -21,7 +21,7 @@ use Rattle.opener.specs.Extents.{load_after}
 use Rattle.opener.specs.Fresh.{CountedBy, HasCounted, answers_by_look}
 use Rattle.opener.specs.Opener.{Tied, MakesOne, KeepsCall, KeepsWords, HasCause, OnAnswer, IsAnswer, IsLastPlace, stop_found}
 use Rattle.opener.specs.Plans.{events_in, room_in}
-use Rattle.opener.specs.Writes.{first_events}
+use Rattle.opener.specs.Writes.{events_of, first_events}
 use Rattle.opener.specs.declared.calls.Step.{Step}
 use Rattle.opener.specs.declared.calls.Step.TheVariants as step
 use Rattle.opener.specs.declared.calls.Stop.TheVariants.{Memory}
@@ -53,6 +53,19 @@ ReservesPlan plan _ s t = ⊥
 -- the first event of a plan was made, and so many are left
 abbrev pub StoresFirst : Plan → ℕ → ShareState → ShareState → Type 0
 StoresFirst plan left s t = (rest : List What) × MakesFirst (first_events plan) rest s t × (events_in plan ≡ left + 1)
+
+-- Which stores are under way after a step: those of the plan for which it reserved the places; those of the plan of which it made the first
+-- event, but that one; or those from before, where the step wasn't made.
+abbrev pub StoresNext : Step → Stage → Plan → Type 0
+StoresNext step.Going (stage.Reserve plan) next = next ≡ plan
+StoresNext step.Going (stage.Store plan) next = (first : What) × (events_of plan ≡ first ∷ events_of next)
+StoresNext step.Again (stage.Store plan) next = next ≡ plan
+StoresNext result at next = ⊥
+
+-- so it is where any are
+abbrev pub LeavesStores : Step → Stage → Work → Type 0
+LeavesStores result at (Runs running (stage.Store next)) = StoresNext result at next
+LeavesStores result at new = ⊤
 
 -- the load that is next, or for which a lock is
 abbrev pub next_load : Work → Option Extent
@@ -158,6 +171,7 @@ pub record Steps (o : OpenerState) (running : Running) (at : Stage) (result : St
   pub cause : HasCause (Runs running at) result new.work s t
   pub takes : TakesTried (Runs running at) s t
   pub acts : ActsAt result at o.image new.work s t
+  pub stores : LeavesStores result at new.work
   pub answer : OnAnswer result (λ a. OnTold t.told (λ h. IsAnswer a h.start h.past))
   pub place : OnAnswer result (λ a. OnTold t.told (λ h. IsPlaceOf (peek_of at) a))
   pub image : KeepsImage result at o.image new t

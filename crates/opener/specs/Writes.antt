@@ -65,6 +65,12 @@ making_of (Rewrite r next map) = r
 abbrev pub first_events : Plan → List What
 first_events plan = (making_of plan).events
 
+-- all events of a plan, in their order
+abbrev pub events_of : Plan → List What
+events_of (Append a map) = a.events
+events_of (Rewrite r None map) = r.events
+events_of (Rewrite r (Some a) map) = r.events ++ a.events
+
 -- its places and its room can be reserved
 pub record CanReserve (plan : Plan) : Type 0 where
   pub few : events_in plan < 2 ^ 32

@@ -4,13 +4,13 @@ ghost use Rattle.opener.specs.Opener.{Tied, running_as};
 ghost use Rattle.opener.specs.Steps.{Steps};
 
 use crate::calls::{Step, Stop};
-use crate::opener::Opener;
+use crate::opener_core::OpenerCore;
 use crate::work::{End, Extent, Running, Stage};
 use loader::{Image, LoadStop, Loading, PartialLoading, Ran};
 use region_words::{Peek, Share};
 use std::mem;
 
-impl Opener {
+impl OpenerCore {
     pub(crate) fn go_on<S: Share>(
         &mut self,
         share: &mut S,
@@ -43,7 +43,7 @@ impl Opener {
 }
 
 // What an opener is left with.
-impl Opener {
+impl OpenerCore {
     ghost use Rattle.std.specs.Prelude.{◌≡◌};
     ghost use Rattle.opener.specs.Extents.{BeginsLoad, CanLoad, IsGoneOn, LoadsNext, load_after};
 

@@ -1,15 +1,16 @@
 // A read without a call: a look at two words, and the answer of the kept image.
-ghost use Rattle.std.specs.Prelude.{◌≡◌, ◌↔◌, IsTrue, None, IfOk, IfErr, OnOk, option_copied};
-ghost use Rattle.std.specs.Borrow.{sem};
+ghost use Rattle.std.specs.Prelude.{◌≡◌, ◌↔◌, IsTrue, None, IfOk, IfErr, OnOk, option_copied, ⊤};
+ghost use Rattle.std.specs.Borrow.{follows_so, sem};
+ghost use mathlib.Core.Option.{none};
 ghost use Rattle.expiring_map.specs.Live.{value_at};
 ghost use Rattle.loader.specs.Maps.{map_of_image};
 ghost use Rattle.opener.specs.Ends.{OnImage};
 ghost use Rattle.opener.specs.declared.work.Work.TheVariants.{Idle};
 ghost use Rattle.opener.specs.Opener.{Tied};
 ghost use Rattle.opener.specs.Quick.{IsAnswered, IsUpToDate, IsStale, OnCold, OnFault, OnStale, PeekFails, ended_as, left_by};
-ghost use Rattle.opener.specs.Lent.{EndsAs};
+ghost use Rattle.opener.specs.contracts.opener_core.OpenerCore.{the_row};
 
-use crate::opener::Opener;
+use crate::opener_core::OpenerCore;
 use crate::work::Work;
 use region_words::Share;
 use thiserror::Error;
@@ -28,7 +29,7 @@ pub enum Quick {
     Fault,
 }
 
-impl Opener {
+impl OpenerCore {
     /// Whether no call runs, and the opener has not ended.
     pub fn is_idle(&self) -> bool
         ensures { IsTrue result ↔ (self.now.work ≡ Idle) }
@@ -46,7 +47,7 @@ impl Opener {
     ) -> Result<Option<&[u8]>, Quick>
         requires tied { Tied self.old (S.state share.old) }
         requires idle { self.old.work ≡ Idle }
-        ensures* opener { sem 𝓛 (EndsAs self.entry (left_by result self.old)) }
+        ensures* opener { sem 𝓛 (follows_so the_row the_row self.entry.ghost_name none (λ _ _. ⊤) (λ n. n ≡ left_by result self.old)) }
         ensures tied { Tied (left_by result self.old) (S.state share.new) }
         ensures ok { IfOk result (λ value. IsAnswered self.old.image (option_copied value) key.now now (S.state share.old) (S.state share.new)) }
         ensures none { self.old.image ≡ None → result ≡ Err Quick.Cold }
@@ -54,12 +55,12 @@ impl Opener {
         ensures stale { IfErr result (λ why. OnStale why (λ checksum sequence. IsStale self.old.image checksum sequence (S.state share.old) (S.state share.new))) }
         ensures fault { IfErr result (λ why. OnFault why (PeekFails (S.state share.old) (S.state share.new))) }
     {
-        self.notice(share)?;
+        self.look(share)?;
         Ok(self.kept_value(key, now))
     }
 
-    // A look at both words: those of the kept image, or why it doesn't serve.
-    fn notice<S: Share>(&mut self, share: &mut S) -> Result<(), Quick>
+    /// A look at both words: those of the kept image, or why it doesn't serve.
+    pub fn look<S: Share>(&mut self, share: &mut S) -> Result<(), Quick>
         requires tied { Tied self.old (S.state share.old) }
         requires idle { self.old.work ≡ Idle }
         ensures opener { self.new ≡ left_by result self.old }
@@ -95,9 +96,10 @@ impl Opener {
         Quick::Fault
     }
 
-    // The value of a key in the kept image.
-    fn kept_value(&self, key: &[u8], now: u32) -> Option<&[u8]>
-        ensures { OnImage self.now.image (λ i. option_copied result ≡ value_at (map_of_image i) key.now now) }
+    /// The value of a key at a moment, in seconds, in the kept image.
+    pub fn kept_value(&self, key: &[u8], now: u32) -> Option<&[u8]>
+        ensures value { OnImage self.now.image (λ i. option_copied result ≡ value_at (map_of_image i) key.now now) }
+        ensures none { self.now.image ≡ None → result ≡ None }
     {
         self.image.as_ref()?.map().value_at(key, now)
     }

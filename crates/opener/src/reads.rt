@@ -6,7 +6,7 @@ ghost use Rattle.opener.specs.Opener.{Tied, running_as};
 ghost use Rattle.opener.specs.Steps.{Steps};
 
 use crate::calls::{Step, Stop};
-use crate::opener::Opener;
+use crate::opener_core::OpenerCore;
 use crate::reply::reply_in;
 use crate::work::{End, Extent, Running, Stage, Work};
 use change_log::{Answer, Call, Reply};
@@ -17,7 +17,7 @@ use region_words::{Peek, Share, ShareStop};
 use std::alloc::Global;
 use std::mem;
 
-impl Opener {
+impl OpenerCore {
     pub(crate) fn peek_checksum<S: Share>(&mut self, share: &mut S, running: Running) -> Step
         requires { Tied (running_as self.old running Stage.PeekChecksum) (S.state share.old) }
         ensures { Steps self.old running Stage.PeekChecksum result self.new (S.state share.old) (S.state share.new) }
@@ -136,7 +136,7 @@ impl Opener {
 }
 
 // What an opener is left with.
-impl Opener {
+impl OpenerCore {
     ghost use Rattle.std.specs.Prelude.{◌≡◌, ◌≢◌, ◌<◌, ◌≤◌, None, Some, false, is_some, not};
     ghost use Rattle.opener.specs.Calls.{AfterStop};
     ghost use Rattle.opener.specs.Quick.{ended_as};
@@ -176,7 +176,7 @@ impl Opener {
     fn die(&mut self) -> Step
         ensures step { result ≡ Step.Stopped Stop.Fault }
         ensures who { self.new.who ≡ self.old.who }
-        ensures left { (self.new.handled ≡ false) × (self.new.holds ≡ 0) × (self.new.image ≡ None) × (self.new.work ≡ Work.Ended) }
+        ensures left { (self.new.holds ≡ 0) × (self.new.image ≡ None) × (self.new.work ≡ Work.Ended) }
     {
         self.end();
         Step::Stopped(Stop::Fault)
@@ -186,7 +186,6 @@ impl Opener {
     pub(crate) fn end(&mut self)
         ensures { self.new ≡ ended_as self.old.who }
     {
-        self.handler = None;
         self.holds = 0;
         self.image = None;
         self.set_work(Work::Ended);

@@ -3,7 +3,7 @@ ghost use Rattle.opener.specs.Opener.{Tied, running_as};
 ghost use Rattle.opener.specs.Steps.{Steps};
 
 use crate::calls::{Step, Stop};
-use crate::opener::Opener;
+use crate::opener_core::OpenerCore;
 use crate::plan::{Plan, plan_of};
 use crate::work::{End, Running, Stage};
 use change_log::Reply;
@@ -13,7 +13,7 @@ use lock_rules::{LockKind, Tried};
 use region_words::{RowMaker, Share, ShareStop, Standing, Stored};
 use std::mem;
 
-impl Opener {
+impl OpenerCore {
     pub(crate) fn lock_exclusive<S: Share>(&mut self, share: &mut S, running: Running) -> Step
         requires { Tied (running_as self.old running Stage.LockExclusive) (S.state share.old) }
         ensures { Steps self.old running Stage.LockExclusive result self.new (S.state share.old) (S.state share.new) }
@@ -136,7 +136,7 @@ impl Opener {
 }
 
 // What is left after a part of a write.
-impl Opener {
+impl OpenerCore {
     ghost use Rattle.std.specs.Prelude.{◌≡◌, ◌<◌, ◌^◌, None, IfErr, IfOk};
     ghost use Rattle.opener.specs.Plans.{CanWrite, IsPlanOf, IsNotPlanned};
     ghost use Rattle.opener.specs.Ends.{OnImage, Rewritten, Written, sized_image, IsKeptSound};

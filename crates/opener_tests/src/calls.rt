@@ -5,7 +5,7 @@ ghost use Rattle.opener.specs.Opener.{Tied};
 use change_log::Call;
 use expiring_map::{Bytes, Memory};
 use handlers::{Handler, Steady, Strategy};
-use opener::{Opener, Step, Stop};
+use opener::{Opener, OpenerCore, Step, Stop};
 use region_words::Share;
 use std::alloc::Global;
 use std::mem;
@@ -15,13 +15,22 @@ use test_support::opened;
 pub(crate) fn opener_of<S: Share>(alloc: Global, share: &S) -> Option<Opener>
     requires alive { (S.state share.now).ended ≡ false }
     requires free { (S.state share.now).holds ≡ None }
-    ensures { IfSome result (λ o. Tied o (S.state share.now)) }
+    ensures { IfSome result (λ o. Tied o.core (S.state share.now)) }
 {
     let handler: Box<dyn Handler + Send> = Box::new(
         alloc,
         Steady::new(alloc, Strategy::Leave),
     ).ok()?;
     Some(Opener::new(alloc, share.who(), handler))
+}
+
+// One without its handler.
+pub(crate) fn core_of<S: Share>(alloc: Global, share: &S) -> OpenerCore
+    requires alive { (S.state share.now).ended ≡ false }
+    requires free { (S.state share.now).holds ≡ None }
+    ensures { Tied result (S.state share.now) }
+{
+    OpenerCore::new(alloc, share.who())
 }
 
 // How a call came out.
@@ -43,8 +52,8 @@ pub(crate) fn end_of(step: Step) -> End {
 
 // The steps of the call that runs, to its end or to so many.
 pub(crate) fn finish<S: Share>(opener: &mut Opener, share: &mut S, most: u32) -> Step
-    requires { Tied opener.old (S.state share.old) }
-    ensures { Tied opener.new (S.state share.new) }
+    requires { Tied opener.old.core (S.state share.old) }
+    ensures { Tied opener.new.core (S.state share.new) }
 {
     for _ in 0..most {
         let step = opener.step(share);
@@ -58,13 +67,31 @@ pub(crate) fn finish<S: Share>(opener: &mut Opener, share: &mut S, most: u32) ->
 
 // A whole call.
 pub(crate) fn ask<S: Share>(opener: &mut Opener, share: &mut S, call: Call) -> End
-    requires { Tied opener.old (S.state share.old) }
-    ensures { Tied opener.new (S.state share.new) }
+    requires { Tied opener.old.core (S.state share.old) }
+    ensures { Tied opener.new.core (S.state share.new) }
 {
     match opener.begin(share, call, 100) {
         Ok(()) => end_of(finish(opener, share, 4000)),
         Err(_) => End::NotBegun,
     }
+}
+
+// A whole call of an opener without its handler.
+pub(crate) fn ask_core<S: Share>(core: &mut OpenerCore, share: &mut S, call: Call) -> End
+    requires { Tied core.old (S.state share.old) }
+    ensures { Tied core.new (S.state share.new) }
+{
+    let Ok(()) = core.begin(share, call, 100) else {
+        return End::NotBegun;
+    };
+    for _ in 0..4000 {
+        let step = core.step(share);
+        match step {
+            Step::Going => {}
+            _ => return end_of(step),
+        }
+    }
+    End::GoesOn
 }
 
 // The end of a new opener's first call, over a seat at these files whose calls of the listed numbers fail.

@@ -5,3 +5,5 @@ pub mod Together
 pub mod Turns
 pub mod Fresh
 pub mod Loaded
+pub mod Handed
+pub mod Owed

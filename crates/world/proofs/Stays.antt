@@ -145,7 +145,6 @@ module _ (who : ℕ) (l k : Local) (stays : Stays who l k) (agrees : Agrees (sha
         who = tied.who;
         maker = tied.maker;
         ended = ended_same ∙ tied.ended;
-        handled = tied.handled;
         holds = lock_same ∙ tied.holds;
         deep = tied.deep;
         sound = tied.sound;

@@ -24,7 +24,7 @@ use Rattle.opener.specs.Fresh.{CountedBy, CountsSoFar}
 use Rattle.opener.specs.Opener.{HasCause, IsAnswer, KeepsWork, MakesOne, OnAnswer, Tied, is_ended, lock_in}
 use Rattle.opener.specs.Settles.{AreSettled, BeginsSettled, Settles, answers_by}
 use Rattle.opener.specs.State.{OpenerState}
-use Rattle.opener.specs.Steps.{ActsAt, IsPlaceOf, KeepsImage, OnRunning, TakesTried, peek_of}
+use Rattle.opener.specs.Steps.{ActsAt, IsPlaceOf, KeepsImage, LeavesStores, OnRunning, TakesTried, peek_of}
 use Rattle.opener.specs.declared.work.Work.{Work}
 use Rattle.opener.specs.declared.work.Work.TheVariants.{Idle, Ended, Runs}
 use Rattle.opener.proofs.Carry.{exclusive_if, exclusive_some}
@@ -58,6 +58,7 @@ pub record Made (o next : OpenerState) (came : Step) (s t : ShareState) : Type 0
   pub cause : HasCause o.work came next.work s t
   pub takes : TakesTried o.work s t
   pub acts : OnRunning o.work (λ at. ActsAt came at o.image next.work s t)
+  pub stores : OnRunning o.work (λ at. LeavesStores came at next.work)
   pub answer : OnAnswer came (λ a. OnTold t.told (λ h. IsAnswer a h.start h.past))
   pub place : OnRunning o.work (λ at. OnAnswer came (λ a. OnTold t.told (λ h. IsPlaceOf (peek_of at) a)))
   pub image : OnRunning o.work (λ at. KeepsImage came at o.image next t)
@@ -137,6 +138,7 @@ module _ (l : Local) (turned new : Seated) (openers : List OpenerState) (answers
         cause = numbered.cause;
         takes = numbered.takes;
         acts = numbered.acts;
+        stores = numbered.stores;
         answer = made.answer;
         place = made.place;
         image = numbered.image;

@@ -1,2 +1,4 @@
 pub mod World
 pub mod Moves
+pub mod Handlers
+pub mod Reserved

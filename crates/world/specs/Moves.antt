@@ -19,7 +19,7 @@ use Rattle.opener.specs.Opener.{HasCause, IsAnswer, KeepsWork, MakesOne, OnAnswe
 use Rattle.opener.specs.Quiet.{RestsQuietly}
 use Rattle.opener.specs.Settles.{answers_by}
 use Rattle.opener.specs.State.{OpenerState}
-use Rattle.opener.specs.Steps.{ActsAt, IsPlaceOf, KeepsImage, OnRunning, TakesTried, peek_of}
+use Rattle.opener.specs.Steps.{ActsAt, IsPlaceOf, KeepsImage, LeavesStores, OnRunning, TakesTried, peek_of}
 use Rattle.opener.specs.declared.calls.Step.{Step}
 use Rattle.opener.specs.declared.calls.Step.TheVariants as step
 use Rattle.opener.specs.declared.work.Work.TheVariants.{Idle}
@@ -40,7 +40,7 @@ loads_of w who = (account_of w.region.accounts who).loads
 
 -- an opener of this number that has made no call
 abbrev pub new_opener : ℕ → OpenerState
-new_opener who = record { who = who; handled = true; image = None; holds = 0; work = Idle }
+new_opener who = record { who = who; image = None; holds = 0; work = Idle }
 
 -- an opener was opened, with the next number, and has made no call
 pub record Opens (who : ℕ) (old new : WorldState) : Type 0 where
@@ -98,6 +98,7 @@ pub record Steps (who : ℕ) (o next : OpenerState) (came : Step) (old new : Wor
   pub cause : HasCause o.work came next.work (share_of old.region who) (share_of new.region who)
   pub takes : TakesTried o.work (share_of old.region who) (share_of new.region who)
   pub acts : OnRunning o.work (λ at. ActsAt came at o.image next.work (share_of old.region who) (share_of new.region who))
+  pub stores : OnRunning o.work (λ at. LeavesStores came at next.work)
   pub answer : OnAnswer came (λ a. IsAnswer a new.region.start new.region.past)
   pub place : OnRunning o.work (λ at. OnAnswer came (IsPlaceOf (peek_of at)))
   pub image : OnRunning o.work (λ at. KeepsImage came at o.image next (share_of new.region who))

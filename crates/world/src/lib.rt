@@ -7,8 +7,11 @@ mod moves;
 mod openers;
 mod stops;
 mod world;
+mod world_core;
 
-pub use laws::answers_count_loads_that_were_made;
+pub use laws::{
+    answers_count_loads_that_were_made, reserved_places_are_of_the_stores_under_way,
+};
 pub use moves::Moved;
 pub use openers::MOST_OPENERS;
 pub use stops::{NotOpened, OpenStop, WorldStop};

@@ -9,10 +9,9 @@ ghost use Rattle.world.specs.World.{IsWorld, Lives, WorldState, calls_running};
 ghost use Rattle.world.specs.Moves.{Begun, HoldsAreKept, IfAnswered, IsNotBegun, IsNotOpened, IsSaid, Moves, Opens, new_opener, stop_of_admission, world_of};
 
 use crate::moves::Moved;
-use crate::stops::{NotOpened, OpenStop, WorldStop};
+use crate::stops::{OpenStop, WorldStop};
 use change_log::{Answer, Call};
-use handlers::Handler;
-use opener::{Opener, Step};
+use opener::{OpenerCore, Step};
 use region_words::{AdmitStop, LocalSeat, Share};
 use std::alloc::Global;
 use std::mem;
@@ -21,7 +20,7 @@ use std::mem;
 pub const MOST_OPENERS: usize = lock_rules::MOST_OPENERS as usize;
 
 // The place of the opener of this number, where it lives.
-pub(crate) fn place_of(openers: &[Opener], who: u32) -> Option<usize>
+pub(crate) fn place_of(openers: &[OpenerCore], who: u32) -> Option<usize>
     ensures some { IfSome result (λ place. (place + 1 ≡ who) × (place < length openers.now) × ((o : OpenerState) → slice_get openers.now place ≡ Some o → is_ended o.work ≡ false)) }
     ensures none { result ≡ None → (o : OpenerState) → Lives openers.now who o → ⊥ }
 {
@@ -37,34 +36,30 @@ pub(crate) fn place_of(openers: &[Opener], who: u32) -> Option<usize>
 pub(crate) fn open_one(
     alloc: Global,
     seat: &mut LocalSeat,
-    openers: &mut Vec<Opener>,
+    openers: &mut Vec<OpenerCore>,
     answers: &Vec<Answer>,
-    handler: Box<dyn Handler + Send>,
-) -> Result<u32, NotOpened>
+) -> Result<u32, OpenStop>
     requires { IsWorld seat.old.region openers.old.items answers.now.items }
     ensures world { IsWorld seat.new.region openers.new.items answers.now.items }
     ensures running { calls_running openers.new.items ≡ calls_running openers.old.items }
     ensures ok { (noted : Bool) → IfOk result (λ who. Opens who (world_of seat.old openers.old.items answers.now.items noted) (world_of seat.new openers.new.items answers.now.items noted)) }
-    ensures err { (noted : Bool) → IfErr result (λ n. IsNotOpened n.why (world_of seat.old openers.old.items answers.now.items noted)) }
+    ensures err { (noted : Bool) → IfErr result (λ why. IsNotOpened why (world_of seat.old openers.old.items answers.now.items noted)) }
     ensures start { seat.new.region.start ≡ seat.old.region.start }
     ensures same { OnErr result ((seat.new.region ≡ seat.old.region) × (openers.new.items ≡ openers.old.items)) }
 {
     let count = openers.len();
     if count >= MOST_OPENERS {
-        let why = OpenStop::TooMany;
-        return Err(NotOpened { why, handler });
+        return Err(OpenStop::TooMany);
     }
     if openers.reserve(1).is_err() {
-        let why = OpenStop::Memory;
-        return Err(NotOpened { why, handler });
+        return Err(OpenStop::Memory);
     }
     let who = count as u32 + 1;
     seat.turn_to(who);
     if let Err(stop) = seat.admit(who) {
-        let why = not_admitted(stop);
-        return Err(NotOpened { why, handler });
+        return Err(not_admitted(stop));
     }
-    let opener = opener_at(alloc, seat, handler);
+    let opener = opener_at(alloc, seat);
     push_within(openers, opener);
     Ok(who)
 }
@@ -79,19 +74,19 @@ fn not_admitted(stop: AdmitStop) -> OpenStop
 }
 
 // An opener that has made no call.
-fn opener_at(alloc: Global, seat: &LocalSeat, handler: Box<dyn Handler + Send>) -> Opener
+fn opener_at(alloc: Global, seat: &LocalSeat) -> OpenerCore
     requires alive { (seat_state seat.now).ended ≡ false }
     requires free { (seat_state seat.now).holds ≡ None }
     ensures tied { Tied result (seat_state seat.now) }
     ensures new { result ≡ new_opener seat.now.who }
 {
-    Opener::new(alloc, seat.who(), handler)
+    OpenerCore::new(alloc, seat.who())
 }
 
 // Begins a call of the opener at this place.
 pub(crate) fn begin_at(
     seat: &mut LocalSeat,
-    openers: &mut Vec<Opener>,
+    openers: &mut Vec<OpenerCore>,
     answers: &Vec<Answer>,
     place: usize,
     call: Call,
@@ -121,7 +116,7 @@ pub(crate) fn begin_at(
 // The next step of the opener at this place. There is room for its answer.
 pub(crate) fn step_at(
     seat: &mut LocalSeat,
-    openers: &mut Vec<Opener>,
+    openers: &mut Vec<OpenerCore>,
     answers: &mut Vec<Answer>,
     place: usize,
 ) -> Moved
@@ -164,7 +159,7 @@ fn said(came: Step, answers: &mut Vec<Answer>) -> Moved
 }
 
 // Puts a value behind the others, where there is room for one.
-fn push_within<T: Drop>(list: &mut Vec<T>, value: T)
+pub(crate) fn push_within<T: Drop>(list: &mut Vec<T>, value: T)
     requires { vec_len list.old < vec_capacity list.old }
     ensures items { list.new.items ≡ list.old.items ++ value ∷ [] }
     ensures capacity { vec_capacity list.old ≤ vec_capacity list.new }

@@ -1,50 +1,31 @@
-// A world: a region in memory, the openers that were opened in it, and what they answered.
-ghost use Rattle.std.specs.Prelude.{◌≡◌, ◌↔◌, [], None, IfErr, IfOk, IsTrue, OnErr, OnOk, false, replicate, true};
+// A world: a region in memory, the openers that were opened in it with their handlers, and what they answered.
+ghost use Rattle.std.specs.Prelude.{◌≡◌, ◌↔◌, ◌++◌, ◌∷◌, [], None, IfErr, IfOk, IsTrue, OnErr, OnOk, Some, false, replicate, true};
 ghost use Rattle.opener.specs.Opener.{stop_found};
 ghost use Rattle.opener.specs.State.{OpenerState};
 ghost use Rattle.region_words.specs.Local.{no_account};
 ghost use Rattle.region_words.specs.Region.{IsAccepted, base};
+ghost use Rattle.world.specs.Handlers.{HaveHandlers, of_living};
 ghost use Rattle.world.specs.World.{IsLiving, IsSound, Lives};
 ghost use Rattle.world.specs.Moves.{Begun, HoldsAreKept, IsNotBegun, IsNotOpened, IsOneHistory, Moves, Opens, RestsWithItsHistory, RestsWithoutDeath};
 
-use crate::base::start_map;
 use crate::moves::Moved;
-use crate::openers::{MOST_OPENERS, begin_at, open_one, place_of, step_at};
-use crate::stops::{NotOpened, WorldStop};
+use crate::openers::{MOST_OPENERS, push_within};
+use crate::stops::{NotOpened, OpenStop, WorldStop};
+use crate::world_core::WorldCore;
 use change_log::{Answer, Call};
 use expiring_map::{ExpiringMap, Memory};
 use handlers::Handler;
-use opener::{Opener, Stop};
-use region_words::{LocalRegion, LocalSeat};
+use opener::Stop;
+use region_words::LocalRegion;
 use std::alloc::Global;
-use std::marker::Model;
-use std::mem;
 
-/// A region in memory with its openers, which have the numbers 1, 2, .. in the order in which they were opened.
+/// A region in memory with its openers, which have the numbers 1, 2, .. in the order in which they were opened. Each has a
+/// handler as long as it lives.
 #[derive(Drop)]
 pub struct World {
-    alloc: Global,
-    seat: LocalSeat,
-    openers: Vec<Opener>,
-    answers: Vec<Answer>,
-    start_map: Option<ExpiringMap>,
-}
-
-impl Model for World {
-    ghost use Rattle.std.specs.Prelude.{◌≡◌, ◌+◌, ◌≤◌, IfSome, is_some, vec_capacity, vec_len};
-    ghost use Rattle.std.specs.Coded.{codes};
-    ghost use Rattle.expiring_map.specs.contracts.map.ExpiringMap as map;
-    ghost use Rattle.region_words.specs.Region.{base};
-    ghost use Rattle.world.specs.World.{IsWorld, WorldState, calls_running};
-
-    ghost Value = { WorldState };
-
-    ghost coded = { Prim.hlevel (codes, map.the_row.coded) };
-
-    ghost view = { λ w. record { region = w.seat.region; openers = w.openers.items; answers = w.answers.items; noted = is_some w.start_map } };
-
-    ghost invariant = { λ w. IsWorld w.seat.region w.openers.items w.answers.items × (vec_len w.answers + calls_running w.openers.items ≤ vec_capacity w.answers)
-        × IfSome w.start_map (λ m. m ≡ base w.seat.region.start) };
+    core: WorldCore,
+    handlers: Vec<Option<Box<dyn Handler + Send>>>,
+    ghost handled: { HaveHandlers core.openers handlers.items },
 }
 
 impl World {
@@ -53,134 +34,125 @@ impl World {
         requires past { region.past ≡ [] }
         requires new { region.accounts ≡ replicate 65 no_account }
         requires accepted { IsAccepted region.start }
-        ensures new { result ≡ record { region = region; openers = []; answers = []; noted = false } }
-        ensures sound { IsSound result }
+        ensures new { result.core ≡ record { region = region; openers = []; answers = []; noted = false } }
+        ensures handlers { result.handlers.items ≡ [] }
+        ensures sound { IsSound result.core }
     {
         World {
-            alloc,
-            seat: region.seat(1),
-            openers: Vec::new(alloc),
-            answers: Vec::new(alloc),
-            start_map: None,
+            core: WorldCore::new(alloc, region),
+            handlers: Vec::new(alloc),
         }
     }
 
     /// Notes the map that the region shows, for `base`. No opener was opened yet.
     pub fn note_base(&mut self) -> Result<(), Memory>
-        requires { self.old.openers ≡ [] }
-        ensures sound { IsSound self.new }
-        ensures ok { OnOk result (self.new ≡ record self.old { noted = true }) }
-        ensures same { OnErr result (self.new ≡ self.old) }
+        requires { self.old.core.openers ≡ [] }
+        ensures sound { IsSound self.new.core }
+        ensures ok { OnOk result (self.new.core ≡ record self.old.core { noted = true }) }
+        ensures same { OnErr result (self.new.core ≡ self.old.core) }
+        ensures handlers { self.new.handlers.items ≡ self.old.handlers.items }
     {
-        let map = start_map(self.alloc, self.seat.region())?;
-        mem::drop(mem::replace(&mut self.start_map, Some(map)));
-        Ok(())
+        self.core.note_base()
     }
 
     /// The map that the region showed at the start, which was noted: the empty one of a damaged region.
     pub fn base(&self) -> &ExpiringMap
-        requires { self.now.noted ≡ true }
-        ensures { result.now ≡ base self.now.region.start }
+        requires { self.now.core.noted ≡ true }
+        ensures { result.now ≡ base self.now.core.region.start }
     {
-        match &self.start_map {
-            Some(map) => map,
-            None => unreachable!(),
-        }
+        self.core.base()
     }
 
-    /// Opens one more opener, and gives its number. It lives until a call on the region fails for it.
+    /// Opens one more opener with this handler, which was asked and told nothing yet, and gives its number. It lives until a call on
+    /// the region fails for it.
     pub fn open(&mut self, handler: Box<dyn Handler + Send>) -> Result<u32, NotOpened>
-        ensures sound { IsSound self.new }
-        ensures ok { IfOk result (λ who. Opens who self.old self.new) }
-        ensures err { IfErr result (λ n. IsNotOpened n.why self.old) }
-        ensures same { OnErr result (self.new ≡ self.old) }
+        requires fresh { (told handler ≡ []) × (changes_told handler ≡ []) }
+        ensures sound { IsSound self.new.core }
+        ensures ok { IfOk result (λ who. Opens who self.old.core self.new.core) }
+        ensures err { IfErr result (λ n. IsNotOpened n.why self.old.core) }
+        ensures same { OnErr result (self.new.core ≡ self.old.core) }
+        ensures handed_on { OnOk result (self.new.handlers.items ≡ self.old.handlers.items ++ Some handler ∷ []) }
+        ensures handed_back { IfErr result (λ n. n.handler ≡ handler) }
+        ensures others { OnErr result (self.new.handlers.items ≡ self.old.handlers.items) }
     {
-        open_one(
-            self.alloc,
-            &mut self.seat,
-            &mut self.openers,
-            &self.answers,
-            handler,
-        )
+        if self.core.count() < MOST_OPENERS && self.handlers.reserve(1).is_err() {
+            let why = OpenStop::Memory;
+            return Err(NotOpened { why, handler });
+        }
+        match self.core.open() {
+            Ok(who) => {
+                push_within(&mut self.handlers, Some(handler));
+                Ok(who)
+            }
+            Err(why) => Err(NotOpened { why, handler }),
+        }
     }
 
     /// Begins a call of an opener at a moment, in seconds. Room is kept for its answer. Where it isn't begun, nothing changes.
     pub fn begin(&mut self, who: u32, call: Call, now: u32) -> Result<(), WorldStop>
-        ensures sound { IsSound self.new }
-        ensures ok { OnOk result (Begun who call now self.old self.new) }
-        ensures err { IfErr result (λ why. IsNotBegun why who call self.old) }
-        ensures same { OnErr result (self.new ≡ self.old) }
+        ensures sound { IsSound self.new.core }
+        ensures ok { OnOk result (Begun who call now self.old.core self.new.core) }
+        ensures err { IfErr result (λ why. IsNotBegun why who call self.old.core) }
+        ensures same { OnErr result (self.new.core ≡ self.old.core) }
+        ensures handlers { self.new.handlers.items ≡ self.old.handlers.items }
     {
-        let Some(place) = place_of(&self.openers, who) else {
-            mem::drop(call);
-            return Err(WorldStop::NoOpener);
-        };
-        let Ok(()) = self.answers.reserve(MOST_OPENERS) else {
-            mem::drop(call);
-            return Err(WorldStop::Memory);
-        };
-        begin_at(
-            &mut self.seat,
-            &mut self.openers,
-            &self.answers,
-            place,
-            call,
-            now,
-        )
+        self.core.begin(who, call, now)
     }
 
     /// The next step of an opener's call. It takes no memory but what the call itself takes.
     pub fn step(&mut self, who: u32) -> Moved
-        ensures sound { IsSound self.new }
-        ensures moves { Moves who result self.old self.new }
-        ensures held { HoldsAreKept who self.old self.new }
+        ensures sound { IsSound self.new.core }
+        ensures moves { Moves who result self.old.core self.new.core }
+        ensures held { HoldsAreKept who self.old.core self.new.core }
+        ensures handlers { self.new.handlers.items ≡ of_living self.new.core.openers self.old.handlers.items }
     {
-        let Some(place) = place_of(&self.openers, who) else {
-            return Moved::NoOpener;
-        };
-        step_at(&mut self.seat, &mut self.openers, &mut self.answers, place)
+        let moved = self.core.step(who);
+        if let Moved::NoOpener = moved {
+            return moved;
+        }
+        if !self.core.lives(who) {
+            self.handlers[who as usize - 1] = None;
+        }
+        moved
     }
 
     /// Whether an opener of this number was opened and lives.
     pub fn lives(&self, who: u32) -> bool
-        ensures { IsTrue result ↔ IsLiving self.now.openers who }
+        ensures { IsTrue result ↔ IsLiving self.now.core.openers who }
     {
-        place_of(&self.openers, who).is_some()
+        self.core.lives(who)
     }
 
     /// The stop with which an opener's call ends once its lock is given up, where it has found one.
     pub fn stop_found(&self, who: u32) -> Option<Stop>
-        ensures found { (o : OpenerState) → Lives self.now.openers who o → result ≡ stop_found o.work }
-        ensures none { (IsLiving self.now.openers who → ⊥) → result ≡ None }
+        ensures found { (o : OpenerState) → Lives self.now.core.openers who o → result ≡ stop_found o.work }
+        ensures none { (IsLiving self.now.core.openers who → ⊥) → result ≡ None }
     {
-        let place = place_of(&self.openers, who)?;
-        self.openers[place].stop_found()
+        self.core.stop_found(who)
     }
 
     /// What was answered, in the order of the answers.
     pub fn answers(&self) -> &[Answer]
-        ensures answers { result.now ≡ self.now.answers }
-        ensures history { IsOneHistory self.now }
+        ensures answers { result.now ≡ self.now.core.answers }
+        ensures history { IsOneHistory self.now.core }
     {
-        &self.answers
+        self.core.answers()
     }
 
     /// The region as it is, with the journal of what the openers did.
     pub fn region(&self) -> &LocalRegion
-        ensures region { result.now ≡ self.now.region }
-        ensures accepted { IsAccepted self.now.region.start }
-        ensures shows { RestsWithItsHistory self.now }
-        ensures undying { RestsWithoutDeath self.now }
+        ensures region { result.now ≡ self.now.core.region }
+        ensures accepted { IsAccepted self.now.core.region.start }
+        ensures shows { RestsWithItsHistory self.now.core }
+        ensures undying { RestsWithoutDeath self.now.core }
     {
-        let region = self.seat.region();
-        region.journal();
-        region
+        self.core.region()
     }
 
     /// The region, without its openers.
     pub fn into_region(self) -> LocalRegion
-        ensures { result ≡ self.region }
+        ensures { result ≡ self.core.region }
     {
-        self.seat.into_region()
+        self.core.into_region()
     }
 }

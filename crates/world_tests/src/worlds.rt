@@ -13,13 +13,16 @@ use world::{Moved, World};
 // More steps than a call on a small store has.
 const MOST_STEPS: u32 = 8000;
 
-pub(crate) fn handler(alloc: Global) -> Result<Box<dyn Handler + Send>, AllocError> {
+// A handler that was asked and told nothing.
+pub(crate) fn handler(alloc: Global) -> Result<Box<dyn Handler + Send>, AllocError>
+    ensures { IfOk result (λ h. (told h ≡ []) × (changes_told h ≡ [])) }
+{
     Ok(Box::new(alloc, Steady::new(alloc, Strategy::Leave))?)
 }
 
 // A world over these files, without openers. The calls of the listed numbers fail.
 fn world_over(alloc: Global, body: &[u8], meta: &[u8], fails: &[u64]) -> Option<World>
-    ensures { IfSome result (λ w. w.openers ≡ []) }
+    ensures { IfSome result (λ w. w.core.openers ≡ []) }
 {
     let body = body.to_vec(alloc).ok()?;
     let meta = meta.to_vec(alloc).ok()?;

@@ -3,4 +3,4 @@ use Rattle.opener.specs.Opener.{Tied}
 use Rattle.opener_tests.proofs.quick.look_after_a_get.Goals as goal
 
 pub finds-look-requires : goal.finds-look-requires
-finds-look-requires c = subst (Tied c.ask.new.opener) (sym c.change.ensures) c.ask.ensures
+finds-look-requires c = subst (Tied c.ask.new.opener.core) (sym c.change.ensures) c.ask.ensures

@@ -8,7 +8,7 @@ use Rattle.world.proofs.Turns.{is_new_alive, is_new_free, world_opened}
 use Rattle.world.proofs.openers.open_one.Goals as goal
 
 pub opener_at-opener-requires-clause-alive : goal.opener_at-opener-requires-clause-alive
-opener_at-opener-requires-clause-alive g c =
+opener_at-opener-requires-clause-alive c =
     let openers = c.args.openers.now.items in
     let count : c.len-count.result ≡ length openers = omega (arith, c.len-count.ensures, c.args.openers.now.ok.0) in
     let turned : c.turn_to.new.self ≡ record { who = length openers + 1; region = c.args.seat.now.region } = c.turn_to.ensures ∙ ap (λ n. record { who = n + 1; region = c.args.seat.now.region }) count in
@@ -18,7 +18,7 @@ opener_at-opener-requires-clause-alive g c =
     (subst (λ n. (account_of c.admit.new.self.region.accounts (n + 1)).admitted ≡ true) count c.in_default.ensures.admitted)
 
 pub opener_at-opener-requires-clause-free : goal.opener_at-opener-requires-clause-free
-opener_at-opener-requires-clause-free g c =
+opener_at-opener-requires-clause-free c =
     let openers = c.args.openers.now.items in
     let count : c.len-count.result ≡ length openers = omega (arith, c.len-count.ensures, c.args.openers.now.ok.0) in
     let turned : c.turn_to.new.self ≡ record { who = length openers + 1; region = c.args.seat.now.region } = c.turn_to.ensures ∙ ap (λ n. record { who = n + 1; region = c.args.seat.now.region }) count in
@@ -27,7 +27,7 @@ opener_at-opener-requires-clause-free g c =
     is_new_free c.args.seat.now.region c.turn_to.new.self c.admit.new.self openers c.args.answers.now.items c.requires turned let_in
 
 pub returns-clause-world : goal.returns-clause-world
-returns-clause-world g c =
+returns-clause-world c =
     let openers = c.args.openers.now.items in
     let count : c.len-count.result ≡ length openers = omega (arith, c.len-count.ensures, c.args.openers.now.ok.0) in
     let turned : c.turn_to.new.self ≡ record { who = length openers + 1; region = c.args.seat.now.region } = c.turn_to.ensures ∙ ap (λ n. record { who = n + 1; region = c.args.seat.now.region }) count in

@@ -1,0 +1,5 @@
+use Rattle.opener.specs.Opener.{Tied}
+use Rattle.opener_tests.proofs.calls.ask_core.Given as goal
+
+abbrev pub invariant-loop : goal.invariant-loop
+invariant-loop g l = Tied l.core (g.S.Share.state l.share)
