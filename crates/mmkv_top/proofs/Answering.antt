@@ -13,8 +13,8 @@ use Rattle.region_words.specs.Region.{Region, base}
 use Rattle.region_words.specs.Past.{changes_of}
 use Rattle.region_words.specs.declared.event.Event.{Event}
 use Rattle.region_words.proofs.ReadLaws.{apart_front, changes_more}
-use Rattle.mmkv_top.specs.Parts.{Running, going_on}
-use Rattle.mmkv_top.specs.Play.{AreAnswered}
+use Rattle.script_lang.specs.Parts.{Running, going_on}
+use Rattle.script_lang.specs.Journal.{AreAnswered}
 use Rattle.mmkv_top.specs.Progress.{AreEarlier}
 
 pub nothing_answered : (start : Region) → AreAnswered start [] []

@@ -30,16 +30,17 @@ use Rattle.world.specs.declared.stops.WorldStop.TheVariants as begin
 use Rattle.world.proofs.Numbered.{set_elsewhere, set_is}
 use Rattle.mmkv_top.specs.Halting.{of_begin}
 use Rattle.mmkv_top.specs.State.{PlayState}
-use Rattle.mmkv_top.specs.Parts.{going_on, Part, answers_in, asked_of, lives, opened_by, outcomes_of, past_of, running, Running, strategies}
-use Rattle.mmkv_top.specs.Play.{AreAnswered, IsPlayableLine}
-use Rattle.mmkv_top.specs.Played.{IsPartOf, Stock, drawn, places_after, stocked}
+use Rattle.script_lang.specs.Parts.{going_on, Part, answers_in, asked_of, lives, opened_by, outcomes_of, past_of, running, Running, strategies}
+use Rattle.script_lang.specs.Journal.{AreAnswered, IsPlayableLine}
+use Rattle.script_lang.specs.Played.{IsPartOf, Stock, drawn, places_after, stocked}
 use Rattle.mmkv_top.specs.Progress.{AreEarlier, FollowsWork, HasHalted, HasMarked, HasStored, IsAt, IsBounded, IsNobody, IsOpenTo, IsOpened, IsUnopened, StopSaw, TakesOne}
 use Rattle.mmkv_top.proofs.Histories.{history_of}
 use Rattle.mmkv_top.proofs.Answering.{earlier_now}
 use Rattle.mmkv_top.proofs.InTime.{begin_bounded, in_time}
 use Rattle.mmkv_top.proofs.NoPlaces.{opener_there, roomy}
 use Rattle.mmkv_top.proofs.Stepping.{follows_alive}
-use Rattle.mmkv_top.proofs.Others.{begin_asked, begin_other, opened_still, unopened_still}
+use Rattle.script_lang.proofs.Calls.{begin_asked, begin_other}
+use Rattle.mmkv_top.proofs.Others.{opened_still, unopened_still}
 use Rattle.mmkv_top.proofs.Reasoning.{begin_found, begun_stopless, quiet_reasoned}
 use Rattle.mmkv_top.proofs.Marking.{begun_marked}
 use Rattle.mmkv_top.proofs.Storing.{begun_stored}

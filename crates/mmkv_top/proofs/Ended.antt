@@ -15,9 +15,10 @@ use Rattle.mmkv_top.specs.declared.halt.Halt.{Halt}
 use Rattle.mmkv_top.specs.declared.halt.Halt.TheVariants as halt
 use Rattle.mmkv_top.specs.Ending.{ending}
 use Rattle.mmkv_top.specs.State.{PlayState}
-use Rattle.mmkv_top.specs.Parts.{lines_of, past_of, outcomes_of}
-use Rattle.mmkv_top.specs.Played.{Stock}
-use Rattle.mmkv_top.specs.Play.{IsWithin, AreLines, IsEndedEarly, PlaysInput}
+use Rattle.script_lang.specs.Parts.{lines_of, past_of, outcomes_of}
+use Rattle.script_lang.specs.Played.{Stock}
+use Rattle.script_lang.specs.Script.{IsWithin, AreLines}
+use Rattle.mmkv_top.specs.Play.{IsEndedEarly, PlaysInput}
 use Rattle.world.specs.World.{IsSound, WorldState}
 use Rattle.mmkv_top.specs.Lent.{IsPlayedOn, PlaysOn}
 use Rattle.mmkv_top.specs.Progress.{IsTaken, HaltsAt, IsEndingAt}

@@ -8,8 +8,8 @@ use Rattle.region_words.specs.Region.{Region, base}
 use Rattle.region_words.specs.declared.event.Event.{Event}
 use Rattle.world.specs.World.{IsSound, WorldState}
 use Rattle.world.proofs.Together.{world_is_legal}
-use Rattle.mmkv_top.specs.Parts.{Part, past_of, outcomes_of, answers_in}
-use Rattle.mmkv_top.specs.Play.{IsHistory}
+use Rattle.script_lang.specs.Parts.{Part, past_of, outcomes_of, answers_in}
+use Rattle.script_lang.specs.Journal.{IsHistory}
 
 -- what holds of the world holds of the start, the events and the answers that are its own
 pub told : (P : Region → List Event → List Answer → Type 0) (w : WorldState) (start : Region) (past : List Event) (answers : List Answer) → w.region.start ≡ start → w.region.past ≡ past → w.answers ≡ answers →

@@ -1,5 +1,5 @@
 -- A call that runs on was asked for few steps.
-use Rattle.std.proofs.Common.{◌≡◌, ◌≢◌, ℕ, ◌+◌, ◌-◌, ◌*◌, ◌<◌, ◌≤◌, ◌⊎◌, Bool, true, false, List, ◌++◌, length, refl, sym, ap, ◌∙◌, inl, inr, arith, subst, eq-eqb, ne_eqb}
+use Rattle.std.proofs.Common.{◌≡◌, ℕ, ◌+◌, ◌-◌, ◌*◌, ◌<◌, ◌≤◌, ◌⊎◌, Bool, true, false, List, ◌++◌, length, refl, sym, ap, ◌∙◌, inl, inr, arith, subst, eq-eqb}
 use Rattle.std.proofs.lemmas.Bool.{cases_lt}
 use Rattle.std.specs.Prelude.{Option, Some, None, nat_lt, option_map, slice_get, if◌then◌else◌}
 use Rattle.opener.specs.Begins.{Begins}
@@ -22,8 +22,8 @@ use Rattle.region_words.proofs.StaysFirm.{file_grows}
 use Rattle.script_lang.specs.declared.line.Line.TheVariants.{Step as StepLine}
 use Rattle.script_lang.specs.declared.outcome.Outcome.{Outcome}
 use Rattle.script_lang.specs.declared.outcome.Outcome.TheVariants.{Answered, Blocked, Stopped}
-use Rattle.mmkv_top.specs.Parts.{Part, Running, asked_after, asked_of, going_on, past_of, running}
-use Rattle.mmkv_top.specs.Play.{IsInTime}
+use Rattle.script_lang.specs.Parts.{Part, Running, asked_after, asked_of, going_on, past_of, running}
+use Rattle.script_lang.specs.Journal.{IsInTime}
 use Rattle.mmkv_top.specs.Progress.{CameTo, FollowsWork, IsBounded, IsNobody, IsOpened, IsOutcomeAt, IsUnopened, LeavesFewer}
 use Rattle.mmkv_top.proofs.NoPlaces.{opener_there}
 
@@ -87,13 +87,6 @@ asked_own who count None asked = ap (λ b. if b then asked + count else asked) (
 asked_own who count (Some (Answered a)) asked = ap (λ b. if b then asked + count else asked) (eq-eqb who who refl)
 asked_own who count (Some (Stopped w why)) asked = ap (λ b. if b then asked + count else asked) (eq-eqb who who refl)
 asked_own who count (Some (Blocked w holder)) asked = ap (λ b. if b then 0 else asked) (eq-eqb who who refl)
-
--- and after one of another
-pub asked_other : (maker who count : ℕ) (outcome : Option Outcome) (asked : ℕ) → maker ≢ who → asked_after (Some (StepLine maker count)) outcome who asked ≡ asked
-asked_other maker who count None asked n = ap (λ b. if b then asked + count else asked) (ne_eqb maker who n)
-asked_other maker who count (Some (Answered a)) asked n = ap (λ b. if b then asked + count else asked) (ne_eqb maker who n)
-asked_other maker who count (Some (Stopped w why)) asked n = ap (λ b. if b then asked + count else asked) (ne_eqb maker who n)
-asked_other maker who count (Some (Blocked w holder)) asked n = ap (λ b. if b then 0 else asked) (ne_eqb maker who n)
 
 -- in a file that has grown meanwhile
 pub bounded_later : (work : Work) (asked before now : ℕ) → before ≤ now → IsBounded work asked before → IsBounded work asked now

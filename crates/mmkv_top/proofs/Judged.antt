@@ -4,9 +4,9 @@ use Rattle.region_words.specs.Region.{Region}
 use Rattle.region_words.specs.Lawful.{Lawful}
 use Rattle.world.specs.World.{IsSound}
 use Rattle.mmkv_top.specs.State.{PlayState}
-use Rattle.mmkv_top.specs.Parts.{Part, past_of, outcomes_of, answers_in}
-use Rattle.mmkv_top.specs.Played.{Stock}
-use Rattle.mmkv_top.specs.Play.{IsJournal}
+use Rattle.script_lang.specs.Parts.{Part, past_of, outcomes_of, answers_in}
+use Rattle.script_lang.specs.Played.{Stock}
+use Rattle.script_lang.specs.Journal.{IsJournal}
 use Rattle.mmkv_top.specs.Progress.{IsAt}
 use Rattle.mmkv_top.proofs.Histories.{told}
 

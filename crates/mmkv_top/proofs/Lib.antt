@@ -1,5 +1,4 @@
 mod Dumped
-mod Counting
 mod Reasoning
 mod Storing
 mod NoPlaces

@@ -1,6 +1,6 @@
 -- What the steps of an opener make of a line.
 use Rattle.std.proofs.Common.{◌≡◌, ℕ, ◌≤◌, Bool, true, false, List, [], ◌∷◌, ◌++◌, length, refl, sym, ap, ◌∙◌, subst, append-nil, eq-eqb}
-use Rattle.std.specs.Prelude.{Option, Some, None, flat_map, option_map, option_and_then, slice_get, ◌==◌, if◌then◌else◌, ⊤}
+use Rattle.std.specs.Prelude.{Option, Some, None, flat_map, option_map, slice_get, ◌==◌, if◌then◌else◌, ⊤}
 use Rattle.change_log.specs.Settled.{AreEndedBy}
 use Rattle.change_log.specs.declared.call.Answer.{Answer}
 use Rattle.change_log.specs.declared.call.Call.{Call as Asked}
@@ -22,10 +22,11 @@ use Rattle.script_lang.specs.declared.outcome.Outcome.TheVariants.{Answered, Blo
 use Rattle.world.specs.Moves.{IsSaid}
 use Rattle.world.specs.declared.moves.Moved.{Moved}
 use Rattle.world.specs.declared.moves.Moved.TheVariants as moved
-use Rattle.mmkv_top.specs.Parts.{answers_in, held_after, listed, Running, stepped, going_on}
-use Rattle.mmkv_top.specs.Play.{AreAnswered}
-use Rattle.mmkv_top.specs.Played.{IsOutcomeOf, IsStepLine}
+use Rattle.script_lang.specs.Parts.{answers_in, held_after, listed, Running, going_on}
+use Rattle.script_lang.specs.Journal.{AreAnswered}
+use Rattle.script_lang.specs.Played.{IsOutcomeOf, IsStepLine}
 use Rattle.mmkv_top.specs.Progress.{AreEarlier, CameTo, FollowsWork, HasStored, IsOutcomeAt, IsTextOf}
+use Rattle.script_lang.proofs.Calls.{still_running}
 use Rattle.mmkv_top.proofs.Answering.{answered_later, answers_one, one_within, within_later}
 use Rattle.mmkv_top.proofs.Marking.{MarksLine}
 use Rattle.mmkv_top.proofs.Reasoning.{said_printed}
@@ -35,10 +36,6 @@ use Rattle.mmkv_top.proofs.Storing.{stops_stored}
 abbrev pub EndsLine : ℕ → List Event → List Event → Option Running → Option Outcome → Type 0
 EndsLine who past made None outcome = outcome ≡ None
 EndsLine who past made (Some r) outcome = IsOutcomeOf (made ++ past) (going_on made r) who outcome
-
--- the call that runs after it
-abbrev pub still_running : Option Outcome → List Event → Option Running → Option Running
-still_running outcome made r = option_and_then (stepped outcome) (option_map (going_on made) r)
 
 pub record LineEnds (who : ℕ) (start : Region) (past made : List Event) (answers : List Answer) (held : ℕ) (r : Option Running) (o : OpenerState) (outcome : Option Outcome) : Type 0 where
   pub ends : EndsLine who past made r outcome

@@ -32,8 +32,8 @@ use Rattle.region_words.specs.declared.event.What.TheVariants.{Store, Grow, Lock
 use Rattle.region_words.proofs.ReadLaws.{changes_more}
 use Rattle.script_lang.specs.declared.outcome.Outcome.{Outcome}
 use Rattle.script_lang.specs.declared.outcome.Reason.{Reason}
-use Rattle.mmkv_top.specs.Parts.{Running, going_on, stepped}
-use Rattle.mmkv_top.specs.Played.{AreMarks, reason_said}
+use Rattle.script_lang.specs.Parts.{Running, going_on, stepped}
+use Rattle.script_lang.specs.Played.{AreMarks, reason_said}
 use Rattle.mmkv_top.specs.Progress.{CameTo, FollowsWork, HasMarked, IsOutcomeAt}
 use Rattle.mmkv_top.proofs.Reasoning.{first_at}
 

@@ -29,8 +29,8 @@ use Rattle.region_words.specs.Share.{Goes, IsFull, ShareState, lock_of, most_eve
 use Rattle.region_words.specs.declared.event.Event.{Event}
 use Rattle.region_words.proofs.LockOf.{exclusive_is}
 use Rattle.world.specs.World.{IsSound, WorldState, share_of}
-use Rattle.mmkv_top.specs.Parts.{Part, Running, past_of, strategies}
-use Rattle.mmkv_top.specs.Played.{AsksFor, IsTooFull, places_after}
+use Rattle.script_lang.specs.Parts.{Part, Running, past_of, strategies}
+use Rattle.script_lang.specs.Played.{AsksFor, IsTooFull, places_after}
 use Rattle.mmkv_top.specs.Progress.{FollowsWork, IsOpenTo}
 
 -- Who has places reserved holds the lock exclusive.

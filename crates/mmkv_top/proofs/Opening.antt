@@ -29,8 +29,8 @@ use Rattle.world.proofs.Numbered.{pushed_is}
 use Rattle.mmkv_top.specs.Halting.{of_opening}
 use Rattle.mmkv_top.specs.State.{PlayState, play_state}
 use Rattle.mmkv_top.specs.declared.halt.Halt.TheVariants as halt
-use Rattle.mmkv_top.specs.Parts.{Part, Running, answers_in, outcomes_of, past_of, running, strategies}
-use Rattle.mmkv_top.specs.Played.{IsTooFull, MetNoPlace, Stock, drawn, is_same, stocked}
+use Rattle.script_lang.specs.Parts.{Part, Running, answers_in, outcomes_of, past_of, running, strategies}
+use Rattle.script_lang.specs.Played.{IsTooFull, MetNoPlace, Stock, drawn, is_same, stocked}
 use Rattle.mmkv_top.specs.Progress.{AreEarlier, FollowsWork, HasHalted, HasMarked, HasStored, IsAt, IsNobody, IsOpenTo, IsOpened, IsUnopened, TakesOne}
 use Rattle.mmkv_top.proofs.Answering.{nothing_answered}
 use Rattle.mmkv_top.proofs.NoPlaces.{Reserver, no_place, opener_there, writing}

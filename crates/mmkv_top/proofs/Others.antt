@@ -1,8 +1,7 @@
 -- What an opener has in hand while a line is another's, or names nothing of it.
-use Rattle.std.proofs.Common.{◌≡◌, ◌≢◌, ℕ, cond, List, [], ◌∷◌, ◌++◌, refl, sym, ap, ◌∙◌, subst, append-nil, eq-eqb, ne_eqb}
-use Rattle.std.specs.Prelude.{Option, Some, None, option_map, option_and_then}
+use Rattle.std.proofs.Common.{◌≡◌, ◌≢◌, ℕ, cond, List, [], ◌∷◌, ◌++◌, refl, sym, ap, ◌∙◌, subst, append-nil, ne_eqb}
+use Rattle.std.specs.Prelude.{Option, Some, None}
 use Rattle.change_log.specs.declared.call.Answer.{Answer}
-use Rattle.change_log.specs.declared.call.Call.{Call as Asked}
 use Rattle.opener.specs.Calls.{holds_after}
 use Rattle.opener.specs.State.{OpenerState}
 use Rattle.opener.specs.declared.calls.Step.TheVariants as step
@@ -12,45 +11,17 @@ use Rattle.region_words.specs.Region.{Region, file_size}
 use Rattle.region_words.specs.declared.event.Event.{Event}
 use Rattle.region_words.proofs.StaysFirm.{file_grows}
 use Rattle.script_lang.specs.declared.line.Line.{Line}
-use Rattle.script_lang.specs.declared.line.Line.TheVariants.{Begin, Step as StepLine}
+use Rattle.script_lang.specs.declared.line.Line.TheVariants.{Step as StepLine}
 use Rattle.script_lang.specs.declared.outcome.Outcome.{Outcome}
 use Rattle.script_lang.specs.declared.outcome.Outcome.TheVariants.{Answered, Blocked, Stopped}
-use Rattle.mmkv_top.specs.Parts.{Part, answers_in, asked_after, asked_of, going_on, held_after, holds_of, listed, outcomes_of, own_of, past_of, running, running_after, Running, stepped}
-use Rattle.mmkv_top.specs.Played.{TakesNone}
+use Rattle.script_lang.specs.Parts.{Part, answers_in, asked_after, asked_of, held_after, holds_of, listed, outcomes_of, past_of, running, running_after, Running}
 use Rattle.mmkv_top.specs.Progress.{AreEarlier, FollowsWork, HasMarked, HasStored, IsBounded, IsOpened, IsUnopened}
 use Rattle.mmkv_top.proofs.Answering.{earlier_other}
-use Rattle.mmkv_top.proofs.InTime.{asked_other, bounded_later}
-use Rattle.mmkv_top.proofs.LineEnds.{IsOwn, answers_join, still_running}
+use Rattle.mmkv_top.proofs.InTime.{bounded_later}
+use Rattle.mmkv_top.proofs.LineEnds.{IsOwn, answers_join}
+use Rattle.script_lang.proofs.Calls.{asked_other, going_none, others_take_none, running_other}
 use Rattle.mmkv_top.proofs.Reasoning.{found_later}
 use Rattle.mmkv_top.proofs.Seeing.{saw_still}
-
--- all of an opener's own steps are its own, and none is another's
-pub own_all : (who : ℕ) (made : List Event) → AreSteps who made → own_of who made ≡ made
-own_all who [] own = refl
-own_all who (e ∷ made) own = ap (λ b. cond b (e ∷ own_of who made) (own_of who made)) (eq-eqb e.who who own.0.0) ∙ ap (λ l. e ∷ l) (own_all who made own.1)
-
-own_none : (maker who : ℕ) (made : List Event) → maker ≢ who → AreSteps maker made → own_of who made ≡ []
-own_none maker who [] n own = refl
-own_none maker who (e ∷ made) n own =
-    ap (λ b. cond b (e ∷ own_of who made) (own_of who made)) (ne_eqb e.who who (λ same. n (sym own.0.0 ∙ same))) ∙ own_none maker who made n own.1
-
-pub going_none : (r : Option Running) → option_map (going_on []) r ≡ r
-going_none None = refl
-going_none (Some r) = refl
-
--- the call of the one whose line it is
-pub running_own : (who count : ℕ) (parts : List Part) (made : List Event) (outcome : Option Outcome) → AreSteps who made →
-    running who (record { line = Some (StepLine who count); made = made; outcome = outcome } ∷ parts) ≡ still_running outcome made (running who parts)
-running_own who count parts made outcome own =
-    ap (λ b. cond b (option_and_then (stepped outcome) (option_map (going_on (own_of who made)) (running who parts))) (option_map (going_on (own_of who made)) (running who parts))) (eq-eqb who who refl)
-    ∙ ap (λ l. option_and_then (stepped outcome) (option_map (going_on l) (running who parts))) (own_all who made own)
-
--- and of another
-running_other : (maker who count : ℕ) (parts : List Part) (made : List Event) (outcome : Option Outcome) → maker ≢ who → AreSteps maker made →
-    running who (record { line = Some (StepLine maker count); made = made; outcome = outcome } ∷ parts) ≡ running who parts
-running_other maker who count parts made outcome n own =
-    ap (λ b. cond b (option_and_then (stepped outcome) (option_map (going_on (own_of who made)) (running who parts))) (option_map (going_on (own_of who made)) (running who parts))) (ne_eqb maker who n)
-    ∙ ap (λ l. option_map (going_on l) (running who parts)) (own_none maker who made n own) ∙ going_none (running who parts)
 
 holds_other : (maker who held : ℕ) (outcome : Option Outcome) → maker ≢ who → IsOwn maker outcome → held_after outcome who held ≡ held
 holds_other maker who held None n own = refl
@@ -64,11 +35,6 @@ earlier_still maker who r answers (Some (Answered a)) n own e = earlier_other wh
 earlier_still maker who r answers None n own e = subst (AreEarlier who r) (sym (append-nil answers)) e
 earlier_still maker who r answers (Some (Blocked w holder)) n own e = subst (AreEarlier who r) (sym (append-nil answers)) e
 earlier_still maker who r answers (Some (Stopped w why)) n own e = subst (AreEarlier who r) (sym (append-nil answers)) e
-
--- no step of another takes a lock for this one
-others_take_none : (maker who : ℕ) (made : List Event) → maker ≢ who → AreSteps maker made → TakesNone who made
-others_take_none maker who [] n own = tt
-others_take_none maker who (e ∷ made) n own = ((λ same. absurd (n (sym own.0.0 ∙ same))), others_take_none maker who made n own.1)
 
 -- another's line of steps
 module _ (start : Region) (parts : List Part) (maker who count : ℕ) (made : List Event) (outcome : Option Outcome) (n : maker ≢ who) (steps : AreSteps maker made) (own : IsOwn maker outcome) where
@@ -122,10 +88,3 @@ module _ (start : Region) (parts : List Part) (line : Option Line) (who : ℕ) (
         unfull = op.unfull;
         stored = subst (HasStored step.Going o.work) (sym same) op.stored;
       }
-
--- the begin of another's call
-pub begin_other : (maker who now : ℕ) (call : Asked) (past : List Event) (r : Option Running) → maker ≢ who → running_after (Some (Begin maker now call)) None who past r ≡ r
-begin_other maker who now call past r n = ap (λ b. cond b (Some (record { call = call; now = now; past = past; since = [] })) r) (ne_eqb maker who n)
-
-pub begin_asked : (maker who now : ℕ) (call : Asked) (asked : ℕ) → maker ≢ who → asked_after (Some (Begin maker now call)) None who asked ≡ asked
-begin_asked maker who now call asked n = ap (λ b. cond b 0 asked) (ne_eqb maker who n)

@@ -37,9 +37,9 @@ use Rattle.region_words.specs.declared.event.Event.{Event}
 use Rattle.script_lang.specs.declared.outcome.Outcome.{Outcome}
 use Rattle.script_lang.specs.declared.outcome.Outcome.TheVariants.{Answered, Blocked, Stopped}
 use Rattle.script_lang.specs.declared.outcome.Reason.{Reason}
-use Rattle.mmkv_top.specs.Parts.{Part, is_lock, past_of, running}
-use Rattle.mmkv_top.specs.Played.{IsPrinted, IsReasoned, TakesNone, WasRefused, reason_said}
-use Rattle.mmkv_top.proofs.Counting.{free_before}
+use Rattle.script_lang.specs.Parts.{Part, is_lock, past_of, running}
+use Rattle.script_lang.specs.Played.{IsPrinted, IsReasoned, TakesNone, WasRefused, reason_said}
+use Rattle.script_lang.proofs.Counting.{free_before}
 use Rattle.mmkv_top.specs.Progress.{FoundIs, IsOutcomeAt, StopHolds, StoppedIs}
 
 -- a reason that is said is one that is printed

@@ -34,10 +34,10 @@ use Rattle.region_words.specs.declared.event.Event.{Event}
 use Rattle.region_words.specs.declared.event.What.{What}
 use Rattle.world.specs.World.{IsSound, WorldState, share_of}
 use Rattle.world.specs.Moves.{Steps}
-use Rattle.mmkv_top.specs.Parts.{Running, going_on, is_lock, locks_among, stores_among}
+use Rattle.script_lang.specs.Parts.{Running, going_on, is_lock, locks_among, stores_among}
 use Rattle.mmkv_top.proofs.Barred.{free_to_try, tried_at}
-use Rattle.mmkv_top.proofs.Counting.{count_goes_on, own_locks, stores_of_own}
-use Rattle.mmkv_top.specs.Played.{AsksFor, IsAnsweredBy, IsBlockedBy, IsTooFull, TakesNone}
+use Rattle.script_lang.proofs.Counting.{count_goes_on, own_locks, stores_of_own}
+use Rattle.script_lang.specs.Played.{AsksFor, IsAnsweredBy, IsBlockedBy, IsTooFull, TakesNone}
 use Rattle.region_words.proofs.ReadLaws.{changes_more}
 use Rattle.region_words.proofs.StaysFirm.{file_grows}
 use Rattle.mmkv_top.proofs.Reasoning.{found_later, found_quiet, going_found, holds_of_same, idle_found, stopped_holds}

@@ -19,10 +19,10 @@ use Rattle.region_words.specs.declared.event.What.{What}
 use Rattle.region_words.specs.declared.event.What.TheVariants.{Died, Grow, Lock, Store, Unlock}
 use Rattle.script_lang.specs.declared.outcome.Outcome.{Outcome}
 use Rattle.script_lang.specs.declared.outcome.Reason.{Reason}
-use Rattle.mmkv_top.specs.Parts.{Running, going_on, stepped, stores_among}
-use Rattle.mmkv_top.specs.Played.{reason_said}
+use Rattle.script_lang.specs.Parts.{Running, going_on, stepped, stores_among}
+use Rattle.script_lang.specs.Played.{reason_said}
 use Rattle.mmkv_top.specs.Progress.{CameTo, FollowsWork, HasStored, IsOutcomeAt}
-use Rattle.mmkv_top.proofs.Counting.{filter_join}
+use Rattle.script_lang.proofs.Counting.{filter_join}
 
 -- stores are among the stores and growths
 stores_within : (own : List What) → stores_in own ≤ length (filter changes_region own)

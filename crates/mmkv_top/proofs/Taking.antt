@@ -8,11 +8,12 @@ use Rattle.script_lang.specs.Lines.{IsLine}
 use Rattle.script_lang.proofs.OneMeaning.{names_one_thing}
 use Rattle.mmkv_top.specs.declared.halt.Halt.{Halt}
 use Rattle.mmkv_top.specs.declared.halt.Halt.TheVariants as halt
-use Rattle.mmkv_top.specs.declared.limits.TheConstants.{LARGEST_COUNT, LARGEST_LINE}
+use Rattle.script_lang.specs.declared.limits.TheConstants.{LARGEST_COUNT, LARGEST_LINE}
 use Rattle.mmkv_top.specs.State.{PlayState}
-use Rattle.mmkv_top.specs.Parts.{Part, lines_of}
-use Rattle.mmkv_top.specs.Played.{Stock}
-use Rattle.mmkv_top.specs.Play.{AreLines, CanTake, IsPlayedTo, IsFirstRefused, IsRefusedNext}
+use Rattle.script_lang.specs.Parts.{Part, lines_of}
+use Rattle.script_lang.specs.Played.{Stock}
+use Rattle.script_lang.specs.Script.{AreLines}
+use Rattle.script_lang.specs.Journal.{CanTake, IsPlayedTo, IsFirstRefused, IsRefusedNext}
 use Rattle.world.specs.World.{IsSound}
 use Rattle.mmkv_top.specs.Progress.{IsAt, Takes, TakesText, TextHalts, TakesOrHalts, IsTaken, HaltsAt}
 use Rattle.mmkv_top.proofs.Judged.{journal_of}

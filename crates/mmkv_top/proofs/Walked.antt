@@ -37,15 +37,16 @@ use Rattle.mmkv_top.proofs.Stepping.{follows_alive}
 use Rattle.mmkv_top.specs.State.{PlayState}
 use Rattle.mmkv_top.specs.declared.halt.Halt.{Halt}
 use Rattle.mmkv_top.specs.declared.halt.Halt.TheVariants as halt
-use Rattle.mmkv_top.specs.Parts.{Part, answers_in, asked_of, going_on, holds_of, listed, lives as living, outcomes_of, past_of, running, Running, strategies}
-use Rattle.mmkv_top.specs.Play.{AreAnswered, CanTake}
-use Rattle.mmkv_top.specs.Played.{MetFullJournal, MetNoImage, Stock, drawn, places_after, stocked}
+use Rattle.script_lang.specs.Parts.{Part, answers_in, asked_of, going_on, holds_of, listed, lives as living, outcomes_of, past_of, running, Running, strategies}
+use Rattle.script_lang.specs.Journal.{AreAnswered, CanTake}
+use Rattle.script_lang.specs.Played.{MetFullJournal, MetNoImage, Stock, drawn, places_after, stocked}
 use Rattle.mmkv_top.specs.Progress.{AreEarlier, CameTo, FollowsWork, FoundIs, FoundSaw, HaltsBy, HasHalted, HasMarked, HasStored, IsAt, IsNobody, IsOpenTo, IsOpened, IsTextOf, IsUnopened, IsUnsaid, LeavesFewer, MetFull, Notes, SawNoImage, StopSaw, StoppedFull, StoppedIs, StoppedSaw, Stepped, Takes, TakesOne, Walks, seat_at}
 use Rattle.mmkv_top.proofs.Histories.{history_of}
 use Rattle.mmkv_top.proofs.InTime.{in_time, line_bounded}
 use Rattle.mmkv_top.proofs.LineEnds.{LineEnds, Outcomes, answers_join, is_step_line, line_ends, listed_answers, outcome_is, own_outcome, said_stopped}
 use Rattle.mmkv_top.proofs.NoPlaces.{opener_there, roomy}
-use Rattle.mmkv_top.proofs.Others.{going_none, opened_other, running_own, unopened_other}
+use Rattle.script_lang.proofs.Calls.{going_none, running_own}
+use Rattle.mmkv_top.proofs.Others.{opened_other, unopened_other}
 use Rattle.mmkv_top.proofs.Reasoning.{is_reasoned}
 use Rattle.mmkv_top.proofs.Storing.{line_stored}
 

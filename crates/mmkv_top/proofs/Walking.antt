@@ -16,7 +16,7 @@ use Rattle.world.specs.Moves.{IsSaid, Moves, Steps}
 use Rattle.world.specs.declared.moves.Moved.{Moved}
 use Rattle.world.specs.declared.moves.Moved.TheVariants as moved
 use Rattle.world.proofs.Numbered.{set_there}
-use Rattle.mmkv_top.specs.Parts.{Running}
+use Rattle.script_lang.specs.Parts.{Running}
 use Rattle.mmkv_top.specs.Progress.{IsPlaced, MetFull, Stepped, Walks, seat_at}
 use Rattle.mmkv_top.proofs.LineEnds.{said_going}
 use Rattle.mmkv_top.proofs.Stepping.{at_most, follows_alive, full_met, lives_on, one_more}

@@ -14,7 +14,7 @@ use Rattle.region_words.specs.declared.shelf.ShelfStop.TheVariants.{Failed, Abse
 use Rattle.script_lang.specs.Texts.{line, damage_text, region_text}
 use Rattle.mmkv_top.specs.declared.ending.Ending.{Ending}
 use Rattle.mmkv_top.specs.Ending.{ending, region_fault}
-use Rattle.mmkv_top.specs.Played.{Stock}
+use Rattle.script_lang.specs.Played.{Stock}
 use Rattle.mmkv_top.specs.Play.{PlaysInput, not_yet}
 
 -- the two files of a store, as far as they count: whole pages

@@ -3,9 +3,10 @@ use Rattle.std.specs.Prelude.{◌≡◌, ◌⊎◌, ℕ, Bool, true, false, List
 use Rattle.region_words.specs.Region.{Region}
 use Rattle.world.specs.World.{WorldState}
 use Rattle.mmkv_top.specs.declared.ending.Ending.{Ending}
-use Rattle.mmkv_top.specs.Parts.{answers_in, outcomes_of, past_of}
-use Rattle.mmkv_top.specs.Play.{EndsLines, IsEndedEarly, IsPlayed, texts_of}
-use Rattle.mmkv_top.specs.Played.{Stock}
+use Rattle.script_lang.specs.Parts.{answers_in, outcomes_of, past_of}
+use Rattle.script_lang.specs.Script.{EndsLines, texts_of}
+use Rattle.mmkv_top.specs.Play.{IsEndedEarly, IsPlayed}
+use Rattle.script_lang.specs.Played.{Stock}
 
 -- all lines are played, and their events and answers are those of the world
 pub record IsPlayedOn (stock : Stock) (start : Region) (texts : List (List ℕ)) (w : WorldState) (e : Ending) : Type 0 where

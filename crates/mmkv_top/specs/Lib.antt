@@ -1,7 +1,5 @@
 pub mod Command
 pub mod Ending
-pub mod Parts
-pub mod Played
 pub mod Play
 pub mod Halting
 pub mod State

@@ -39,13 +39,15 @@ use Rattle.world.specs.declared.moves.Moved.{Moved}
 use Rattle.world.specs.declared.moves.Moved.TheVariants as moved
 use Rattle.mmkv_top.specs.declared.halt.Halt.{Halt}
 use Rattle.mmkv_top.specs.declared.halt.Halt.TheVariants as halt
-use Rattle.mmkv_top.specs.declared.limits.TheConstants.{LARGEST_COUNT, LARGEST_LINE}
+use Rattle.script_lang.specs.declared.limits.TheConstants.{LARGEST_COUNT, LARGEST_LINE}
 use Rattle.mmkv_top.specs.State.{PlayState}
 use Rattle.mmkv_top.specs.Ending.{ending}
 use Rattle.mmkv_top.specs.declared.ending.Ending.{Ending}
-use Rattle.mmkv_top.specs.Parts.{Part, lines_of, past_of, outcomes_of, answers_in, strategies, holds_of, asked_of, locks_among, stores_among, Running, running, going_on}
-use Rattle.mmkv_top.specs.Played.{Stock, stocked, drawn, AreHeld, ArePlayed, AreReasoned, AreRoomy, MeetsFullJournal, MeetsNoImage, AsksFor, IsTooFull, IsAnsweredBy, IsBlockedBy, WasRefused, reason_said}
-use Rattle.mmkv_top.specs.Play.{AreAnswered, AreHistories, AreInTime, ArePlayable, IsWithin, AreLines, CanTake, IsFirstRefused, IsHalted, IsRefusedIn, not_yet}
+use Rattle.script_lang.specs.Parts.{Part, lines_of, past_of, outcomes_of, answers_in, strategies, holds_of, asked_of, locks_among, stores_among, Running, running, going_on}
+use Rattle.script_lang.specs.Played.{Stock, stocked, drawn, AreHeld, ArePlayed, AreReasoned, AreRoomy, MeetsFullJournal, MeetsNoImage, AsksFor, IsTooFull, IsAnsweredBy, IsBlockedBy, WasRefused, reason_said}
+use Rattle.script_lang.specs.Script.{IsWithin, AreLines}
+use Rattle.script_lang.specs.Journal.{AreAnswered, AreHistories, AreInTime, ArePlayable, CanTake, IsFirstRefused, IsHalted, IsRefusedIn}
+use Rattle.mmkv_top.specs.Play.{not_yet}
 
 -- the opener runs this call
 pub record Follows (c : Call) (r : Running) : Type 0 where

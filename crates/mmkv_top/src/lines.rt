@@ -1,20 +1,19 @@
 // The lines of a script, taken one after another.
 ghost use Rattle.std.specs.Prelude.{◌≡◌, [], List, false, IfOk, IfErr, OnOk};
 ghost use Rattle.region_words.specs.Region.{Region};
-ghost use Rattle.mmkv_top.specs.Parts.{Part};
-ghost use Rattle.mmkv_top.specs.Played.{Stock, stock_of};
-ghost use Rattle.mmkv_top.specs.Play.{texts_of, without_feed};
+ghost use Rattle.script_lang.specs.Parts.{Part};
+ghost use Rattle.script_lang.specs.Played.{Stock, stock_of};
+ghost use Rattle.script_lang.specs.Script.{texts_of, without_feed};
 ghost use Rattle.world.specs.World.{IsSound};
 ghost use Rattle.world.specs.Moves.{CameFrom};
 ghost use Rattle.mmkv_top.specs.State.{play_state};
 ghost use Rattle.mmkv_top.specs.Progress.{IsAt, IsTaken, HaltsAt, TakesOrHalts};
 
 use crate::halt::{Halt, Halted};
-use crate::limits::{LARGEST_COUNT, LARGEST_LINE};
 use crate::moves::take;
 use bstr::ByteSlice;
 use handlers::HandlerStock;
-use script_lang::{LineStop, read_line};
+use script_lang::{LARGEST_COUNT, LARGEST_LINE, LineStop, read_line};
 use std::alloc::Global;
 use world::World;
 

@@ -7,8 +7,8 @@ ghost use Rattle.region_words.specs.declared.event.Event.{Event};
 ghost use Rattle.world.specs.World.{IsLiving, IsSound, Lives};
 ghost use Rattle.world.specs.Moves.{CameFrom};
 ghost use Rattle.mmkv_top.specs.State.{play_state};
-ghost use Rattle.mmkv_top.specs.Parts.{Part, Running};
-ghost use Rattle.mmkv_top.specs.Played.{Stock, reason_said, stock_of};
+ghost use Rattle.script_lang.specs.Parts.{Part, Running};
+ghost use Rattle.script_lang.specs.Played.{Stock, reason_said, stock_of};
 ghost use Rattle.mmkv_top.specs.Progress.{IsAt, Takes, Notes, Stepped, Walks, MetFull, IsPlaced, HaltsBy, IsHaltOf, seat_at};
 ghost use Rattle.opener.specs.declared.calls.Step.TheVariants as Step;
 

@@ -4,7 +4,7 @@ ghost use Rattle.region_words.specs.Outside.{Rose};
 ghost use Rattle.mmkv_top.specs.Command.{IsNamed, IsNoCommand};
 ghost use Rattle.mmkv_top.specs.Ending.{EndsWith, IsDueOr, ending};
 ghost use Rattle.mmkv_top.specs.Due.{IsDump, IsPlay};
-ghost use Rattle.mmkv_top.specs.Played.{stock_of};
+ghost use Rattle.script_lang.specs.Played.{stock_of};
 
 use crate::command::{Command, command_of};
 use crate::dump::dump;

@@ -8,3 +8,5 @@ pub mod Calling
 pub mod Naming
 pub mod Meaning
 pub mod OneMeaning
+pub mod Counting
+pub mod Calls

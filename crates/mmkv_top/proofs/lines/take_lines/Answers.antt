@@ -1,8 +1,8 @@
 use Rattle.std.proofs.Common.{subst, sym, ◌∙◌, List, ℕ}
 use Rattle.std.specs.Prelude.{map}
 use Rattle.mmkv_top.specs.State.{play_state}
-use Rattle.mmkv_top.specs.Played.{stock_of}
-use Rattle.mmkv_top.specs.Play.{texts_of, without_feed}
+use Rattle.script_lang.specs.Played.{stock_of}
+use Rattle.script_lang.specs.Script.{texts_of, without_feed}
 use Rattle.mmkv_top.specs.Progress.{IsTaken, TextHalts, TakesText}
 use Rattle.world.proofs.Loaded.{came_join, came_still}
 use Rattle.mmkv_top.proofs.Taking.{none_taken, one_taken, stops_there}

@@ -2,8 +2,8 @@ use Rattle.std.specs.Prelude.{map}
 use Rattle.world.specs.World.{IsSound}
 use Rattle.world.specs.Moves.{CameFrom}
 use Rattle.mmkv_top.specs.State.{play_state}
-use Rattle.mmkv_top.specs.Played.{stock_of}
-use Rattle.mmkv_top.specs.Play.{texts_of, without_feed}
+use Rattle.script_lang.specs.Played.{stock_of}
+use Rattle.script_lang.specs.Script.{texts_of, without_feed}
 use Rattle.mmkv_top.specs.Progress.{IsTaken}
 use Rattle.mmkv_top.proofs.lines.take_lines.Given as goal
 

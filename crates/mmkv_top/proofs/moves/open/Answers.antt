@@ -2,7 +2,7 @@ use Rattle.std.proofs.Common.{refl, sym, subst}
 use Rattle.std.specs.Prelude.{Some}
 use Rattle.script_lang.specs.declared.line.Line.TheVariants.{Open}
 use Rattle.mmkv_top.specs.State.{play_state}
-use Rattle.mmkv_top.specs.Played.{stock_of}
+use Rattle.script_lang.specs.Played.{stock_of}
 use Rattle.mmkv_top.specs.Progress.{HasHalted}
 use Rattle.mmkv_top.proofs.Opening.{none_drawn, one_drawn, open_halted, open_taken, undrawn_halted}
 use Rattle.world.specs.Moves.{Opening}

@@ -7,7 +7,7 @@ use Rattle.region_words.specs.declared.event.Event.{Event}
 use Rattle.world.specs.World.{IsSound, Lives}
 use Rattle.world.specs.Moves.{CameFrom}
 use Rattle.world.specs.declared.moves.Moved.TheVariants as moved
-use Rattle.mmkv_top.specs.Parts.{Running}
+use Rattle.script_lang.specs.Parts.{Running}
 use Rattle.mmkv_top.specs.Progress.{Stepped, Walks, seat_at}
 use Rattle.mmkv_top.proofs.moves.steps.Given as goal
 

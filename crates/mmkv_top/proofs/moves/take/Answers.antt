@@ -1,7 +1,7 @@
 use Rattle.std.proofs.Common.{sym, ap, subst, ◌∙◌}
 use Rattle.std.specs.Prelude.{Some}
 use Rattle.mmkv_top.specs.State.{play_state}
-use Rattle.mmkv_top.specs.Played.{stock_of}
+use Rattle.script_lang.specs.Played.{stock_of}
 use Rattle.mmkv_top.specs.Progress.{Takes}
 use Rattle.mmkv_top.proofs.Beginning.{nothing_taken}
 use Rattle.mmkv_top.proofs.moves.take.Goals as goal

@@ -4,8 +4,9 @@ use Rattle.std.specs.Prelude.{true, take, codes, decimal}
 use Rattle.script_lang.specs.Texts.{line}
 use Rattle.mmkv_top.specs.Ending.{ending}
 use Rattle.mmkv_top.specs.State.{play_state}
-use Rattle.mmkv_top.specs.Played.{stock_of}
-use Rattle.mmkv_top.specs.Play.{texts_of, EndsLines, IsEndedEarly}
+use Rattle.script_lang.specs.Played.{stock_of}
+use Rattle.script_lang.specs.Script.{texts_of, EndsLines}
+use Rattle.mmkv_top.specs.Play.{IsEndedEarly}
 use Rattle.mmkv_top.specs.Progress.{IsEndingAt}
 use Rattle.mmkv_top.proofs.Taking.{beyond_all, halts_beyond}
 use Rattle.mmkv_top.proofs.Ended.{ended_early}

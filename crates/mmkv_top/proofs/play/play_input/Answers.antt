@@ -5,7 +5,7 @@ use Rattle.region_words.specs.Outside.{Rose}
 use Rattle.script_lang.specs.Script.{IsWholeInput}
 use Rattle.mmkv_top.specs.Due.{IsInputPlay}
 use Rattle.mmkv_top.specs.Lent.{PlaysOn}
-use Rattle.mmkv_top.specs.Played.{stock_of}
+use Rattle.script_lang.specs.Played.{stock_of}
 use Rattle.mmkv_top.proofs.Ended.{whole_input}
 use Rattle.mmkv_top.proofs.play.play_input.Goals as goal
 

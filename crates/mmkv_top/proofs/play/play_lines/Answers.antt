@@ -1,4 +1,4 @@
-use Rattle.mmkv_top.specs.Played.{stock_of}
+use Rattle.script_lang.specs.Played.{stock_of}
 use Rattle.mmkv_top.proofs.Opening.{no_lines}
 use Rattle.mmkv_top.proofs.play.play_lines.Goals as goal
 

@@ -6,7 +6,7 @@ use Rattle.region_words.specs.Past.{region_after}
 use Rattle.region_words.specs.Region.{region_of, shown_if_accepted}
 use Rattle.meta_record.specs.declared.shown.Shown.TheVariants.{Whole}
 use Rattle.world.specs.World.{WorldState}
-use Rattle.mmkv_top.specs.Played.{stock_of}
+use Rattle.script_lang.specs.Played.{stock_of}
 use Rattle.mmkv_top.specs.Due.{IsInputPlay, IsPlayOf}
 use Rattle.mmkv_top.proofs.Ended.{accepted_shown, whole_shown}
 use Rattle.mmkv_top.proofs.play.play_region.Goals as goal

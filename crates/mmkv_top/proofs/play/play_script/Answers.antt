@@ -5,9 +5,10 @@ use Rattle.region_words.specs.Past.{changes_of, region_after}
 use Rattle.script_lang.specs.Texts.{changes_text, region_text}
 use Rattle.mmkv_top.specs.Ending.{ending}
 use Rattle.mmkv_top.specs.State.{play_state}
-use Rattle.mmkv_top.specs.Played.{stock_of}
+use Rattle.script_lang.specs.Played.{stock_of}
 use Rattle.mmkv_top.specs.Lent.{IsPlayedOn}
-use Rattle.mmkv_top.specs.Play.{texts_of, IsEndedEarly}
+use Rattle.script_lang.specs.Script.{texts_of}
+use Rattle.mmkv_top.specs.Play.{IsEndedEarly}
 use Rattle.mmkv_top.specs.Progress.{IsEndingAt}
 use Rattle.mmkv_top.proofs.Ended.{whole_played, ended_early}
 use Rattle.mmkv_top.proofs.play.play_script.Goals as goal

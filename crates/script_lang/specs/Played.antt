@@ -35,7 +35,7 @@ use Rattle.script_lang.specs.declared.outcome.Outcome.{Outcome}
 use Rattle.script_lang.specs.declared.outcome.Outcome.TheVariants.{Answered, Blocked, Stopped}
 use Rattle.script_lang.specs.declared.outcome.Reason.{Reason}
 use Rattle.script_lang.specs.declared.outcome.Reason.TheVariants as reason
-use Rattle.mmkv_top.specs.Parts.{Part, past_of, lives, holds_of, is_lock, locks_among, stores_among, strategies, Running, running, going_on}
+use Rattle.script_lang.specs.Parts.{Part, past_of, lives, holds_of, is_lock, locks_among, stores_among, strategies, Running, running, going_on}
 
 -- how many handlers of each strategy a stock has
 pub record Stock : Type 0 where

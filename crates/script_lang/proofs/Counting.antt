@@ -18,7 +18,7 @@ use Rattle.region_words.specs.declared.event.Event.{Event}
 use Rattle.region_words.specs.declared.event.What.{What}
 use Rattle.region_words.specs.declared.event.What.TheVariants.{Store, Grow, Lock, Unlock, Died}
 use Rattle.region_words.proofs.LockOf.{lock_at_first, lock_with, lock_without, none_holds}
-use Rattle.mmkv_top.specs.Parts.{is_lock, locks_among, stores_among}
+use Rattle.script_lang.specs.Parts.{is_lock, locks_among, stores_among}
 
 -- the stores of an opener's events
 pub stores_of_own : (who : ℕ) (own : List What) → stores_in own ≡ stores_among (made_by who own)
