@@ -6,3 +6,4 @@ pub mod State
 pub mod Progress
 pub mod Due
 pub mod Lent
+pub mod Stocked

@@ -1,11 +1,12 @@
 // The lines of a script, taken one after another.
-ghost use Rattle.std.specs.Prelude.{◌≡◌, [], List, false, IfOk, IfErr, OnOk};
+ghost use Rattle.std.specs.Prelude.{[], ◌≡◌, List, false, IfOk, IfErr, OnOk};
 ghost use Rattle.region_words.specs.Region.{Region};
 ghost use Rattle.script_lang.specs.Parts.{Part};
 ghost use Rattle.script_lang.specs.Played.{Stock, stock_of};
 ghost use Rattle.script_lang.specs.Script.{texts_of, without_feed};
 ghost use Rattle.world.specs.World.{IsSound};
 ghost use Rattle.world.specs.Moves.{CameFrom};
+ghost use Rattle.mmkv_top.specs.Stocked.{OfAll};
 ghost use Rattle.mmkv_top.specs.State.{play_state};
 ghost use Rattle.mmkv_top.specs.Progress.{IsAt, IsTaken, HaltsAt, TakesOrHalts};
 
@@ -25,12 +26,14 @@ pub(crate) fn take_lines(
     handlers: &mut HandlerStock,
     script: &[u8],
 ) -> Result<usize, Halted>
-    requires sound { IsSound world.old }
-    requires at { IsAt (stock_of handlers.old) (stock_of handlers.old) world.old.region.start [] (play_state world.old text.old.items) }
-    ensures sound { IsSound world.new }
-    ensures moved { CameFrom world.old world.new }
-    ensures taken { IfOk result (IsTaken (stock_of handlers.old) (stock_of handlers.new) world.old.region.start (texts_of script.now) [] (play_state world.new text.new.items)) }
-    ensures halted { IfErr result (λ h. HaltsAt (stock_of handlers.old) world.old.region.start (texts_of script.now) false h.number h.why) }
+    requires fresh { OfAll (λ h. (told h ≡ []) × (changes_told h ≡ [])) handlers.old }
+    requires sound { IsSound world.old.core }
+    requires at { IsAt (stock_of handlers.old) (stock_of handlers.old) world.old.core.region.start [] (play_state world.old.core text.old.items) }
+    ensures fresh { OfAll (λ h. (told h ≡ []) × (changes_told h ≡ [])) handlers.new }
+    ensures sound { IsSound world.new.core }
+    ensures moved { CameFrom world.old.core world.new.core }
+    ensures taken { IfOk result (IsTaken (stock_of handlers.old) (stock_of handlers.new) world.old.core.region.start (texts_of script.now) [] (play_state world.new.core text.new.items)) }
+    ensures halted { IfErr result (λ h. HaltsAt (stock_of handlers.old) world.old.core.region.start (texts_of script.now) false h.number h.why) }
 {
     let mut count = 0;
     for line in script.lines_with_terminator() {
@@ -65,11 +68,13 @@ fn take_text(
     count: usize,
     line: &[u8],
 ) -> Result<(), Halt>
-    requires sound { IsSound world.old }
-    ensures sound { IsSound world.new }
-    ensures moved { CameFrom world.old world.new }
-    ensures taken { (stock : Stock) (start : Region) (parts : List Part) → IsAt stock (stock_of handlers.old) start parts (play_state world.old text.old.items) →
-        TakesOrHalts stock (stock_of handlers.new) start parts count line.now (play_state world.new text.new.items) result }
+    requires fresh { OfAll (λ h. (told h ≡ []) × (changes_told h ≡ [])) handlers.old }
+    requires sound { IsSound world.old.core }
+    ensures fresh { OfAll (λ h. (told h ≡ []) × (changes_told h ≡ [])) handlers.new }
+    ensures sound { IsSound world.new.core }
+    ensures moved { CameFrom world.old.core world.new.core }
+    ensures taken { (stock : Stock) (start : Region) (parts : List Part) → IsAt stock (stock_of handlers.old) start parts (play_state world.old.core text.old.items) →
+        TakesOrHalts stock (stock_of handlers.new) start parts count line.now (play_state world.new.core text.new.items) result }
 {
     if count >= LARGEST_COUNT || line.len() > LARGEST_LINE {
         return Err(Halt::Refused);

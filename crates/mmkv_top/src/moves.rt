@@ -1,11 +1,12 @@
 // What the lines of a script do to a world.
-ghost use Rattle.std.specs.Prelude.{◌≡◌, ◌↔◌, [], IsTrue, IfOk, IfErr, OnErr, OnOk, List, Option, Some, ℕ, length};
+ghost use Rattle.std.specs.Prelude.{[], ◌≡◌, ◌↔◌, IsTrue, IfOk, IfErr, OnErr, OnOk, List, Option, Some, ℕ, length};
 ghost use Rattle.opener.specs.Opener.{stop_found};
 ghost use Rattle.opener.specs.State.{OpenerState};
 ghost use Rattle.region_words.specs.Region.{Region};
 ghost use Rattle.region_words.specs.declared.event.Event.{Event};
 ghost use Rattle.world.specs.World.{IsLiving, IsSound, Lives};
 ghost use Rattle.world.specs.Moves.{CameFrom};
+ghost use Rattle.mmkv_top.specs.Stocked.{OfAll};
 ghost use Rattle.mmkv_top.specs.State.{play_state};
 ghost use Rattle.script_lang.specs.Parts.{Part, Running};
 ghost use Rattle.script_lang.specs.Played.{Stock, reason_said, stock_of};
@@ -29,11 +30,13 @@ pub(crate) fn take(
     handlers: &mut HandlerStock,
     line: Option<Line>,
 ) -> Result<(), Halt>
-    requires sound { IsSound world.old }
-    ensures sound { IsSound world.new }
-    ensures moved { CameFrom world.old world.new }
-    ensures taken { (stock : Stock) (start : Region) (parts : List Part) → IsAt stock (stock_of handlers.old) start parts (play_state world.old text.old.items) →
-        Takes stock (stock_of handlers.new) start parts line (play_state world.new text.new.items) result }
+    requires fresh { OfAll (λ h. (told h ≡ []) × (changes_told h ≡ [])) handlers.old }
+    requires sound { IsSound world.old.core }
+    ensures fresh { OfAll (λ h. (told h ≡ []) × (changes_told h ≡ [])) handlers.new }
+    ensures sound { IsSound world.new.core }
+    ensures moved { CameFrom world.old.core world.new.core }
+    ensures taken { (stock : Stock) (start : Region) (parts : List Part) → IsAt stock (stock_of handlers.old) start parts (play_state world.old.core text.old.items) →
+        Takes stock (stock_of handlers.new) start parts line (play_state world.new.core text.new.items) result }
 {
     match line {
         None => Ok(()),
@@ -45,11 +48,13 @@ pub(crate) fn take(
 }
 
 fn open(world: &mut World, handlers: &mut HandlerStock, strategy: Strategy) -> Result<(), Halt>
-    requires sound { IsSound world.old }
-    ensures sound { IsSound world.new }
-    ensures moved { CameFrom world.old world.new }
-    ensures taken { (stock : Stock) (start : Region) (parts : List Part) (text : List ℕ) → IsAt stock (stock_of handlers.old) start parts (play_state world.old text) →
-        Takes stock (stock_of handlers.new) start parts (Some (Line.Open strategy)) (play_state world.new text) result }
+    requires fresh { OfAll (λ h. (told h ≡ []) × (changes_told h ≡ [])) handlers.old }
+    requires sound { IsSound world.old.core }
+    ensures fresh { OfAll (λ h. (told h ≡ []) × (changes_told h ≡ [])) handlers.new }
+    ensures sound { IsSound world.new.core }
+    ensures moved { CameFrom world.old.core world.new.core }
+    ensures taken { (stock : Stock) (start : Region) (parts : List Part) (text : List ℕ) → IsAt stock (stock_of handlers.old) start parts (play_state world.old.core text) →
+        Takes stock (stock_of handlers.new) start parts (Some (Line.Open strategy)) (play_state world.new.core text) result }
 {
     let Some(handler) = handlers.draw(strategy) else {
         return Err(Halt::Refused);
@@ -65,11 +70,11 @@ fn open(world: &mut World, handlers: &mut HandlerStock, strategy: Strategy) -> R
 }
 
 fn begin(world: &mut World, who: u32, now: u32, call: Call) -> Result<(), Halt>
-    requires sound { IsSound world.old }
-    ensures sound { IsSound world.new }
-    ensures moved { CameFrom world.old world.new }
-    ensures taken { (stock left : Stock) (start : Region) (parts : List Part) (text : List ℕ) → IsAt stock left start parts (play_state world.old text) →
-        Takes stock left start parts (Some (Line.Begin who now call)) (play_state world.new text) result }
+    requires sound { IsSound world.old.core }
+    ensures sound { IsSound world.new.core }
+    ensures moved { CameFrom world.old.core world.new.core }
+    ensures taken { (stock left : Stock) (start : Region) (parts : List Part) (text : List ℕ) → IsAt stock left start parts (play_state world.old.core text) →
+        Takes stock left start parts (Some (Line.Begin who now call)) (play_state world.new.core text) result }
 {
     match world.begin(who, call, now) {
         Ok(()) => Ok(()),
@@ -84,11 +89,11 @@ fn step(
     who: u32,
     count: u32,
 ) -> Result<(), Halt>
-    requires sound { IsSound world.old }
-    ensures sound { IsSound world.new }
-    ensures moved { CameFrom world.old world.new }
-    ensures taken { (stock left : Stock) (start : Region) (parts : List Part) → IsAt stock left start parts (play_state world.old text.old.items) →
-        Takes stock left start parts (Some (Line.Step who count)) (play_state world.new text.new.items) result }
+    requires sound { IsSound world.old.core }
+    ensures sound { IsSound world.new.core }
+    ensures moved { CameFrom world.old.core world.new.core }
+    ensures taken { (stock left : Stock) (start : Region) (parts : List Part) → IsAt stock left start parts (play_state world.old.core text.old.items) →
+        Takes stock left start parts (Some (Line.Step who count)) (play_state world.new.core text.new.items) result }
 {
     if !world.lives(who) {
         return Err(Halt::Refused);
@@ -102,16 +107,16 @@ fn step(
 // Steps of an opener's running call, to the first that doesn't leave it going, or to so many. What the last of them came to. A step
 // that finds no place in the journal ends the play, also where the call's lock is still to be given up.
 fn steps(world: &mut World, who: u32, count: u32) -> Result<Moved, Halt>
-    requires sound { IsSound world.old }
-    ensures sound { IsSound world.new }
-    ensures moved { CameFrom world.old world.new }
-    ensures placed { IfOk result (IsPlaced (length world.new.answers)) }
-    ensures walks { IfOk result (λ last. (o : OpenerState) → Lives world.old.openers who o → (start : Region) (past : List Event) (held : ℕ) (before : Option Running) →
-        Stepped who (length world.old.openers) start past held before o.work 0 Step.Going [] o (seat_at who world.old.region) →
-        Walks who (length world.old.openers) start past held before o.work count last world.old world.new) }
+    requires sound { IsSound world.old.core }
+    ensures sound { IsSound world.new.core }
+    ensures moved { CameFrom world.old.core world.new.core }
+    ensures placed { IfOk result (IsPlaced (length world.new.core.answers)) }
+    ensures walks { IfOk result (λ last. (o : OpenerState) → Lives world.old.core.openers who o → (start : Region) (past : List Event) (held : ℕ) (before : Option Running) →
+        Stepped who (length world.old.core.openers) start past held before o.work 0 Step.Going [] o (seat_at who world.old.core.region) →
+        Walks who (length world.old.core.openers) start past held before o.work count last world.old.core world.new.core) }
     ensures full { IfErr result (λ why. why ≡ Halt.JournalFull) }
-    ensures halted { OnErr result ((o : OpenerState) → Lives world.old.openers who o → (start : Region) (past : List Event) (held : ℕ) (before : Option Running) →
-        Stepped who (length world.old.openers) start past held before o.work 0 Step.Going [] o (seat_at who world.old.region) → MetFull who (length world.old.openers) start past before count) }
+    ensures halted { OnErr result ((o : OpenerState) → Lives world.old.core.openers who o → (start : Region) (past : List Event) (held : ℕ) (before : Option Running) →
+        Stepped who (length world.old.core.openers) start past held before o.work 0 Step.Going [] o (seat_at who world.old.core.region) → MetFull who (length world.old.core.openers) start past before count) }
 {
     for _ in 0..count {
         match world.step(who) {
@@ -127,15 +132,15 @@ fn steps(world: &mut World, who: u32, count: u32) -> Result<Moved, Halt>
 
 // The running call found no places in the journal for what it wants.
 fn lacks_places(world: &World, who: u32) -> bool
-    ensures { (o : OpenerState) → Lives world.now.openers who o → IsTrue result ↔ stop_found o.work ≡ Some Stop.JournalFull }
+    ensures { (o : OpenerState) → Lives world.now.core.openers who o → IsTrue result ↔ stop_found o.work ≡ Some Stop.JournalFull }
 {
     matches!(world.stop_found(who), Some(Stop::JournalFull))
 }
 
 // Adds the text of what an opener's last step came to, if it ends the line.
 fn note(alloc: Global, world: &World, who: u32, last: Moved, text: &mut Vec<u8>) -> Result<(), Halt>
-    requires { IsPlaced (length world.now.answers) last }
-    ensures ok { OnOk result (Notes who world.now.answers last text.old.items text.new.items) }
+    requires { IsPlaced (length world.now.core.answers) last }
+    ensures ok { OnOk result (Notes who world.now.core.answers last text.old.items text.new.items) }
     ensures err { IfErr result (HaltsBy last) }
 {
     match last {

@@ -1,11 +1,12 @@
 // The command `play`.
-ghost use Rattle.std.specs.Prelude.{◌≡◌, ◌≢◌, ◌⊎◌, ℕ, ◌≤◌, ◌++◌, ◌∷◌, [], List, IfOk, OnOk, flat_map, length, replicate, take, false, true, codes, decimal};
+ghost use Rattle.std.specs.Prelude.{[], ◌≡◌, ◌≢◌, ◌⊎◌, ℕ, ◌≤◌, ◌++◌, ◌∷◌, List, IfOk, OnOk, flat_map, length, replicate, take, false, true, codes, decimal};
 ghost use Rattle.region_words.specs.Outside.{Rose};
 ghost use Rattle.region_words.specs.Region.{IsAccepted};
 ghost use Rattle.region_words.specs.Past.{region_after, changes_of};
 ghost use Rattle.region_words.specs.Local.{no_account};
 ghost use Rattle.region_words.specs.Stores.{IsId};
 ghost use Rattle.script_lang.specs.Texts.{line, changes_text, region_text};
+ghost use Rattle.mmkv_top.specs.Stocked.{OfAll};
 ghost use Rattle.mmkv_top.specs.Ending.{IsDueOr, ending};
 ghost use Rattle.mmkv_top.specs.Due.{IsAmong, play_statuses, IsPlay, IsPlayOf, IsInputPlay, IsEndingOf, region_in};
 ghost use Rattle.script_lang.specs.Played.{stock_of};
@@ -42,7 +43,8 @@ pub(crate) fn play<D: Shelf, S: Source>(
     input: &mut S,
     handlers: &mut HandlerStock,
 ) -> Ending
-    requires { IsId id.now }
+    requires fresh { OfAll (λ h. (told h ≡ []) × (changes_told h ≡ [])) handlers.old }
+    requires id { IsId id.now }
     ensures due { IsDueOr (Rose (D.faults shelf.old) (D.faults shelf.new))
         (IsPlay (stock_of handlers.old) (S.left input.old) (S.left input.new) (Rose (S.faults input.old) (S.faults input.new)) (D.stores shelf.old id.now)) result }
     ensures same { (other : List ℕ) → D.stores shelf.new other ≡ D.stores shelf.old other }
@@ -65,6 +67,7 @@ fn play_brought<S: Source>(
     input: &mut S,
     handlers: &mut HandlerStock,
 ) -> Result<Ending, Memory>
+    requires fresh { OfAll (λ h. (told h ≡ []) × (changes_told h ≡ [])) handlers.old }
     requires data { IfOk brought (λ b. length b.body ≤ LARGEST_DATA) }
     requires meta { IfOk brought (λ b. length b.meta ≤ LARGEST_META) }
     ensures due { IfOk result (λ e. IsEndingOf
@@ -83,6 +86,7 @@ fn play_files<S: Source>(
     input: &mut S,
     handlers: &mut HandlerStock,
 ) -> Result<Ending, Memory>
+    requires fresh { OfAll (λ h. (told h ≡ []) × (changes_told h ≡ [])) handlers.old }
     requires data { length brought.body ≤ LARGEST_DATA }
     requires meta { length brought.meta ≤ LARGEST_META }
     ensures due { IfOk result (IsPlayOf (stock_of handlers.old) (S.left input.old) (S.left input.new)
@@ -103,6 +107,7 @@ fn play_region<S: Source>(
     input: &mut S,
     handlers: &mut HandlerStock,
 ) -> Result<Ending, Memory>
+    requires fresh { OfAll (λ h. (told h ≡ []) × (changes_told h ≡ [])) handlers.old }
     requires past { region.past ≡ [] }
     requires new { region.accounts ≡ replicate 65 no_account }
     requires steady { region.failing.listed ≡ [] }
@@ -129,10 +134,11 @@ fn play_input<S: Source>(
     input: &mut S,
     handlers: &mut HandlerStock,
 ) -> Result<Ending, Memory>
-    requires sound { IsSound world.old }
-    requires unopened { world.old.openers ≡ [] }
-    requires steady { world.old.region.failing.listed ≡ [] }
-    ensures due { IfOk result (IsInputPlay (stock_of handlers.old) world.old.region.start (S.left input.old) (S.left input.new)
+    requires fresh { OfAll (λ h. (told h ≡ []) × (changes_told h ≡ [])) handlers.old }
+    requires sound { IsSound world.old.core }
+    requires unopened { world.old.core.openers ≡ [] }
+    requires steady { world.old.core.region.failing.listed ≡ [] }
+    ensures due { IfOk result (IsInputPlay (stock_of handlers.old) world.old.core.region.start (S.left input.old) (S.left input.new)
         (Rose (S.faults input.old) (S.faults input.new))) }
     ensures clean_input { IfOk result (λ e. e.status ≢ 3 → S.faults input.new ≡ S.faults input.old) }
 {
@@ -153,10 +159,11 @@ fn play_text(
     cut: bool,
     handlers: &mut HandlerStock,
 ) -> Result<Ending, Memory>
-    requires sound { IsSound world.old }
-    requires unopened { world.old.openers ≡ [] }
-    requires steady { world.old.region.failing.listed ≡ [] }
-    ensures { IfOk result (PlaysOn cut (stock_of handlers.old) world.old.region.start script.now world.new) }
+    requires fresh { OfAll (λ h. (told h ≡ []) × (changes_told h ≡ [])) handlers.old }
+    requires sound { IsSound world.old.core }
+    requires unopened { world.old.core.openers ≡ [] }
+    requires steady { world.old.core.region.failing.listed ≡ [] }
+    ensures { IfOk result (PlaysOn cut (stock_of handlers.old) world.old.core.region.start script.now world.new.core) }
 {
     let mut text = Vec::new(alloc);
     let status = play_on(alloc, world, script, cut, handlers, &mut text);
@@ -179,17 +186,19 @@ pub fn play_on(
     stock: &mut HandlerStock,
     out: &mut Vec<u8>,
 ) -> Status
-    requires sound { IsSound world.old }
-    requires unopened { world.old.openers ≡ [] }
-    requires steady { world.old.region.failing.listed ≡ [] }
-    ensures sound { IsSound world.new }
+    requires fresh { OfAll (λ h. (told h ≡ []) × (changes_told h ≡ [])) stock.old }
+    requires sound { IsSound world.old.core }
+    requires unopened { world.old.core.openers ≡ [] }
+    requires steady { world.old.core.region.failing.listed ≡ [] }
+    ensures fresh { OfAll (λ h. (told h ≡ []) × (changes_told h ≡ [])) stock.new }
+    ensures sound { IsSound world.new.core }
     // What the script ends with.
     ensures played { result.0 ≢ 8 → (text : List ℕ) × (out.new.items ≡ out.old.items ++ text)
-        × PlaysOn cut (stock_of stock.old) world.old.region.start script.now world.new (ending result.0 text) }
+        × PlaysOn cut (stock_of stock.old) world.old.core.region.start script.now world.new.core (ending result.0 text) }
     ensures memory { result.0 ≡ 8 → out.new.items ≡ out.old.items }
     // Whatever it ends with.
-    ensures moved { CameFrom world.old world.new }
-    ensures loads { (who : ℕ) → 1 ≤ who → who ≤ MOST_OPENERS → CountsLoads who world.old world.new }
+    ensures moved { CameFrom world.old.core world.new.core }
+    ensures loads { (who : ℕ) → 1 ≤ who → who ≤ MOST_OPENERS → CountsLoads who world.old.core world.new.core }
 {
     answers_count_loads_that_were_made();
     match play_lines(alloc, world, script, cut, stock) {
@@ -222,12 +231,14 @@ fn play_lines(
     cut: bool,
     handlers: &mut HandlerStock,
 ) -> Result<Ending, Memory>
-    requires sound { IsSound world.old }
-    requires unopened { world.old.openers ≡ [] }
-    requires steady { world.old.region.failing.listed ≡ [] }
-    ensures sound { IsSound world.new }
-    ensures moved { CameFrom world.old world.new }
-    ensures played { IfOk result (PlaysOn cut (stock_of handlers.old) world.old.region.start script.now world.new) }
+    requires fresh { OfAll (λ h. (told h ≡ []) × (changes_told h ≡ [])) handlers.old }
+    requires sound { IsSound world.old.core }
+    requires unopened { world.old.core.openers ≡ [] }
+    requires steady { world.old.core.region.failing.listed ≡ [] }
+    ensures fresh { OfAll (λ h. (told h ≡ []) × (changes_told h ≡ [])) handlers.new }
+    ensures sound { IsSound world.new.core }
+    ensures moved { CameFrom world.old.core world.new.core }
+    ensures played { IfOk result (PlaysOn cut (stock_of handlers.old) world.old.core.region.start script.now world.new.core) }
     ensures statuses { IfOk result (λ e. e.status ≢ 8) }
 {
     if cut {
@@ -243,12 +254,14 @@ fn play_script(
     handlers: &mut HandlerStock,
     script: &[u8],
 ) -> Result<Ending, Memory>
-    requires sound { IsSound world.old }
-    requires at { IsAt (stock_of handlers.old) (stock_of handlers.old) world.old.region.start [] (play_state world.old []) }
-    ensures sound { IsSound world.new }
-    ensures moved { CameFrom world.old world.new }
-    ensures played { IfOk result (λ e. IsPlayedOn (stock_of handlers.old) world.old.region.start (texts_of script.now) world.new e
-        ⊎ IsEndedEarly (stock_of handlers.old) world.old.region.start (texts_of script.now) false e) }
+    requires fresh { OfAll (λ h. (told h ≡ []) × (changes_told h ≡ [])) handlers.old }
+    requires sound { IsSound world.old.core }
+    requires at { IsAt (stock_of handlers.old) (stock_of handlers.old) world.old.core.region.start [] (play_state world.old.core []) }
+    ensures fresh { OfAll (λ h. (told h ≡ []) × (changes_told h ≡ [])) handlers.new }
+    ensures sound { IsSound world.new.core }
+    ensures moved { CameFrom world.old.core world.new.core }
+    ensures played { IfOk result (λ e. IsPlayedOn (stock_of handlers.old) world.old.core.region.start (texts_of script.now) world.new.core e
+        ⊎ IsEndedEarly (stock_of handlers.old) world.old.core.region.start (texts_of script.now) false e) }
 {
     let mut text = Vec::new(alloc);
     match take_lines(alloc, world, &mut text, handlers, script) {
@@ -264,12 +277,14 @@ fn play_cut(
     handlers: &mut HandlerStock,
     script: &[u8],
 ) -> Result<Ending, Memory>
-    requires sound { IsSound world.old }
-    requires at { IsAt (stock_of handlers.old) (stock_of handlers.old) world.old.region.start [] (play_state world.old []) }
-    ensures sound { IsSound world.new }
-    ensures moved { CameFrom world.old world.new }
+    requires fresh { OfAll (λ h. (told h ≡ []) × (changes_told h ≡ [])) handlers.old }
+    requires sound { IsSound world.old.core }
+    requires at { IsAt (stock_of handlers.old) (stock_of handlers.old) world.old.core.region.start [] (play_state world.old.core []) }
+    ensures fresh { OfAll (λ h. (told h ≡ []) × (changes_told h ≡ [])) handlers.new }
+    ensures sound { IsSound world.new.core }
+    ensures moved { CameFrom world.old.core world.new.core }
     ensures played { IfOk result (λ e. (size : ℕ) × EndsLines script.now size
-        × IsEndedEarly (stock_of handlers.old) world.old.region.start (texts_of (take size script.now)) true e) }
+        × IsEndedEarly (stock_of handlers.old) world.old.core.region.start (texts_of (take size script.now)) true e) }
 {
     let size = end_of_lines(script);
     let mut text = Vec::new(alloc);
@@ -324,7 +339,7 @@ fn not_yet(alloc: Global) -> Result<Ending, Memory>
 
 // The text of all changes and of the region that is left, behind that of the outcomes.
 fn played(alloc: Global, world: &World, outcomes: Vec<u8>) -> Result<Ending, Memory>
-    ensures { IfOk result (λ e. e ≡ ending 0 (outcomes.items ++ (changes_text (changes_of world.now.region.past) ++ region_text (region_after world.now.region.start world.now.region.past)))) }
+    ensures { IfOk result (λ e. e ≡ ending 0 (outcomes.items ++ (changes_text (changes_of world.now.core.region.past) ++ region_text (region_after world.now.core.region.start world.now.core.region.past)))) }
 {
     a_region_stays_a_region();
     let region = world.region();

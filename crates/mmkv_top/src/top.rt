@@ -1,6 +1,7 @@
 // The top call.
-ghost use Rattle.std.specs.Prelude.{◌≡◌, ◌≢◌, ℕ, List, codes};
+ghost use Rattle.std.specs.Prelude.{[], ◌≡◌, ◌≢◌, ℕ, List, codes};
 ghost use Rattle.region_words.specs.Outside.{Rose};
+ghost use Rattle.mmkv_top.specs.Stocked.{OfAll};
 ghost use Rattle.mmkv_top.specs.Command.{IsNamed, IsNoCommand};
 ghost use Rattle.mmkv_top.specs.Ending.{EndsWith, IsDueOr, ending};
 ghost use Rattle.mmkv_top.specs.Due.{IsDump, IsPlay};
@@ -26,6 +27,7 @@ pub fn run<D: Shelf, S: Source, K: Sink>(
     mut stock: HandlerStock,
 ) -> Status
     // What each command ends with. Instead the shelf, the source or the sink had a fault, or memory was refused.
+    requires fresh { OfAll (λ h. (told h ≡ []) × (changes_told h ≡ [])) stock }
     ensures usage { IsNoCommand words.now → EndsWith (K.written out.old) (K.written out.new)
         (Rose (K.faults out.old) (K.faults out.new)) (Rose (D.faults shelf.old) (D.faults shelf.new)) result
         (λ e. e ≡ ending 2 (codes "usage\n")) }
@@ -59,6 +61,7 @@ fn plan<D: Shelf, S: Source>(
     input: &mut S,
     handlers: &mut HandlerStock,
 ) -> Ending
+    requires fresh { OfAll (λ h. (told h ≡ []) × (changes_told h ≡ [])) handlers.old }
     ensures usage { IsNoCommand words.now → IsDueOr (Rose (D.faults shelf.old) (D.faults shelf.new)) (λ e. e ≡ ending 2 (codes "usage\n")) result }
     ensures dump { (id : List ℕ) → IsNamed words.now (codes "dump") id →
         IsDueOr (Rose (D.faults shelf.old) (D.faults shelf.new)) (IsDump (D.stores shelf.old id)) result }

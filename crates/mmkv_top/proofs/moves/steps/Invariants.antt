@@ -13,8 +13,8 @@ use Rattle.mmkv_top.proofs.moves.steps.Given as goal
 
 abbrev pub invariant-loop : goal.invariant-loop
 invariant-loop g l =
-    IsSound l.world × (length l.world.openers ≡ length l.fn.world.openers)
-    × ((o : OpenerState) → Lives l.fn.world.openers l.fn.who o → (start : Region) (past : List Event) (held : ℕ) (before : Option Running) →
-    Stepped l.fn.who (length l.fn.world.openers) start past held before o.work 0 step.Going [] o (seat_at l.fn.who l.fn.world.region) →
-    Walks l.fn.who (length l.fn.world.openers) start past held before o.work l.counter moved.Going l.fn.world l.world)
-    × CameFrom l.fn.world l.world
+    IsSound l.world.core × (length l.world.core.openers ≡ length l.fn.world.core.openers)
+    × ((o : OpenerState) → Lives l.fn.world.core.openers l.fn.who o → (start : Region) (past : List Event) (held : ℕ) (before : Option Running) →
+    Stepped l.fn.who (length l.fn.world.core.openers) start past held before o.work 0 step.Going [] o (seat_at l.fn.who l.fn.world.core.region) →
+    Walks l.fn.who (length l.fn.world.core.openers) start past held before o.work l.counter moved.Going l.fn.world.core l.world.core)
+    × CameFrom l.fn.world.core l.world.core

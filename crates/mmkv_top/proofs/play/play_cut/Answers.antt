@@ -15,7 +15,7 @@ use Rattle.mmkv_top.proofs.play.play_cut.Goals as goal
 pub returns-in-Ok-clause-played : goal.returns-in-Ok-clause-played
 returns-in-Ok-clause-played g c =
     let stock = stock_of c.args.handlers.now in
-    let start = c.args.world.now.region.start in
+    let start = c.args.world.now.core.region.start in
     let size = c.end_of_lines-size.result in
     IfOk-weaker c.script_refused.result
     (λ e. e ≡ ending 9 (line (codes "script" ∷ decimal (c.in-Ok.count + 1) ∷ [])))
@@ -25,7 +25,7 @@ returns-in-Ok-clause-played g c =
       c.end_of_lines-size.ensures,
       inl (
         c.in-Ok.count + 1,
-        beyond_all stock (stock_of c.take_lines-taken.new.handlers) start (texts_of (take size c.args.script.now)) (play_state c.take_lines-taken.new.world c.take_lines-taken.new.text.items) c.in-Ok.count c.take_lines-taken.ensures.sound c.in-Ok.ensures.taken,
+        beyond_all stock (stock_of c.take_lines-taken.new.handlers) start (texts_of (take size c.args.script.now)) (play_state c.take_lines-taken.new.world.core c.take_lines-taken.new.text.items) c.in-Ok.count c.take_lines-taken.ensures.sound c.in-Ok.ensures.taken,
         text,
       ),
     )) c.script_refused.ensures
@@ -33,7 +33,7 @@ returns-in-Ok-clause-played g c =
 pub returns-in-Err-clause-played : goal.returns-in-Err-clause-played
 returns-in-Err-clause-played g c =
     let stock = stock_of c.args.handlers.now in
-    let start = c.args.world.now.region.start in
+    let start = c.args.world.now.core.region.start in
     let size = c.end_of_lines-size.result in
     IfOk-weaker c.halted_at.result (IsEndingAt c.in-Err.halted.number c.in-Err.halted.why)
     (λ e. (x : ℕ) × EndsLines c.args.script.now x × IsEndedEarly stock start (texts_of (take x c.args.script.now)) true e)

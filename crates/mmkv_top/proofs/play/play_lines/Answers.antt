@@ -3,7 +3,7 @@ use Rattle.mmkv_top.proofs.Opening.{no_lines}
 use Rattle.mmkv_top.proofs.play.play_lines.Goals as goal
 
 pub play_cut-requires-clause-at : goal.play_cut-requires-clause-at
-play_cut-requires-clause-at g c = no_lines (stock_of c.args.handlers.now) c.args.world.now c.requires.sound c.requires.unopened c.requires.steady
+play_cut-requires-clause-at g c = no_lines (stock_of c.args.handlers.now) c.args.world.now.core c.requires.sound c.requires.unopened c.requires.steady
 
 pub play_script-requires-clause-at : goal.play_script-requires-clause-at
-play_script-requires-clause-at g c = no_lines (stock_of c.args.handlers.now) c.args.world.now c.requires.sound c.requires.unopened c.requires.steady
+play_script-requires-clause-at g c = no_lines (stock_of c.args.handlers.now) c.args.world.now.core c.requires.sound c.requires.unopened c.requires.steady

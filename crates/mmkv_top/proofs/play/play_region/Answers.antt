@@ -35,6 +35,6 @@ returns-in-Ok-Whole-clause-due g c =
     ap (λ x. region_of x c.meta_bytes.result.now) c.data_bytes.ensures ∙ ap (λ x. region_of (region_after r.start r.past).data_bytes x) c.meta_bytes.ensures ∙ ap (region_after r.start) c.requires.past in
     let shows : shown_if_accepted r.start ≡ Ok (Whole c.in-Ok-Whole.field-0-0) =
     sym (ap shown_if_accepted same) ∙ sym c.shown.ensures ∙ c.in-Ok-Whole.is ∙ ap (λ x. Ok x) c.in-Ok-Whole.field-0-is in
-    IfOk-weaker c.play_input-ending.result (IsInputPlay stock c.new-world.result.region.start left now rose) (IsPlayOf stock left now rose r.start)
+    IfOk-weaker c.play_input-ending.result (IsInputPlay stock c.new-world.result.core.region.start left now rose) (IsPlayOf stock left now rose r.start)
     (λ e h. whole_shown stock left now rose r.start c.in-Ok-Whole.field-0-0 e shows
     (subst (λ x. IsInputPlay stock x left now rose e) (ap (λ (w : WorldState). w.region.start) c.new-world.ensures.new) h)) c.play_input-ending.ensures.due

@@ -9,7 +9,7 @@ use Rattle.mmkv_top.proofs.play.played.Goals as goal
 
 pub returns : goal.returns
 returns g c =
-    let r = c.args.world.now.region in
+    let r = c.args.world.now.core.region in
     let here = c.region-region.result.now in
     let there : here ≡ r = c.region-region.ensures.region in
     ap (λ x. ending 0 x)
