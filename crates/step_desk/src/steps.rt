@@ -6,7 +6,7 @@ ghost use Rattle.region_words.specs.Local.{Local};
 ghost use Rattle.step_desk.specs.declared.view.Stage.TheVariants.{Counted, Idle};
 ghost use Rattle.step_desk.specs.Mirrors.{checksum_after, changes_made, sequence_after};
 ghost use Rattle.step_desk.specs.Numbers.{Among};
-ghost use Rattle.step_desk.specs.Steps.{IsReady, PutsBack, CanCount, Looked, HandsAreFresh, seeing, seeing_slot, idle, keeper, handed, joined, longer, shorter, numbers_of_shorter, Follows};
+ghost use Rattle.step_desk.specs.Steps.{IsReady, PutsBack, CanCount, Looked, HandsAreFresh, seeing, seeing_slot, idle, turned_away, keeper, handed, joined, longer, shorter, numbers_of_shorter, Follows};
 ghost use Rattle.step_desk.specs.Passes.{HasShape, IsShown, IsTaken, PassIs, counts_after_stop, no_counts};
 
 use crate::counts::CallCounts;
@@ -80,16 +80,14 @@ pub fn shown_of(seat: &LocalSeat) -> Shown
 // Tries once to take the turn, and the region with it.
 pub fn take(board: &Board, hand: &mut Hand) -> Result<Taken, ShareStop>
     requires table { (hand.old.token.table_id ≡ board.now.table_id) × HasShape board.now.table_id }
-    requires ready { IsReady hand.old.who hand.old.token.me }
-    ensures same { (hand.new.token.table_id ≡ hand.old.token.table_id) × (hand.new.who ≡ hand.old.who) × (hand.new.made ≡ hand.old.made) }
+    requires pass { PassIs hand.old.token.me hand.old.who hand.old.made }
+    ensures same { (hand.new.token.table_id ≡ hand.old.token.table_id) × (hand.new.who ≡ hand.old.who) × (hand.new.made ≡ hand.old.made) × (hand.new.counts ≡ hand.old.counts) }
     ensures ok { IfOk result (λ t. IsTaken hand.old.token.me t.region hand.new.token.me) }
     ensures before { IfOk result (λ t. IsShown t.before.checksum t.before.sequence t.before.changes t.before.events t.region.region.start t.region.region.past) }
-    ensures counts { OnOk result (hand.new.counts ≡ hand.old.counts) }
-    ensures err { IfErr result (λ stop. (stop ≡ ShareStop.Turn) × (hand.new.token.me ≡ hand.old.token.me)) }
-    ensures refused { IfErr result (λ stop. hand.new.counts ≡ counts_after_stop stop hand.old.counts) }
+    ensures err { IfErr result (λ stop. (stop ≡ ShareStop.Turn) × (hand.new.token.me ≡ (turned_away hand.old.token.me.0, hand.old.token.me.1))) }
+    ensures refused { IfErr result (λ _. PassIs hand.new.token.me hand.new.who hand.new.made) }
 {
     if board.compare_exchange::<Takes>(&mut hand.token, TURN, 0, u64::from(hand.who)) != 0 {
-        hand.counts = hand.counts.stopped(ShareStop::Turn);
         return Err(ShareStop::Turn);
     }
     let region = board.exchange(&mut hand.token, 0, None).unwrap();
