@@ -1,5 +1,5 @@
 // The steps of a pass on the table of its desk.
-ghost use Rattle.std.specs.Prelude.{◌≡◌, ◌≢◌, ◌+◌, ◌*◌, [], List, IfOk, IfErr, OnOk, true};
+ghost use Rattle.std.specs.Prelude.{◌/◌, ◌%◌, max, ◌≡◌, ◌≢◌, ◌+◌, ◌*◌, [], List, IfOk, IfErr, OnOk, true};
 ghost use Rattle.region_words.specs.Outside.{one_more};
 ghost use Rattle.region_words.specs.declared.event.What.{What};
 ghost use Rattle.region_words.specs.Local.{Local};
@@ -133,6 +133,19 @@ pub fn put(board: &Board, hand: &mut Hand, taken: Taken)
     }
 }
 
+// Counts what was found in a mirrored word as a load, and gives the word that it mirrors. The number of changes beside it
+// may be that of a journal before the one that this pass has seen.
+fn look(hand: &mut Hand, found: u64) -> u32
+    ensures same { (hand.new.token ≡ hand.old.token) × (hand.new.who ≡ hand.old.who) }
+    ensures made { hand.new.made ≡ max hand.old.made (found / 4294967296) }
+    ensures counts { hand.new.counts ≡ record hand.old.counts { loads = one_more hand.old.counts.loads } }
+    ensures word { result ≡ found % 4294967296 }
+{
+    hand.made = hand.made.max((found / ABOVE) as u32);
+    hand.counts = hand.counts.loaded();
+    (found % ABOVE) as u32
+}
+
 // The checksum, and the number of changes at that moment.
 pub fn peek_checksum(board: &Board, hand: &mut Hand) -> Peek
     requires table { (hand.old.token.table_id ≡ board.now.table_id) × HasShape board.now.table_id }
@@ -145,10 +158,9 @@ pub fn peek_checksum(board: &Board, hand: &mut Hand) -> Peek
     ensures changes { result.changes ≡ hand.new.made }
 {
     let found = board.load::<PeeksAtChecksum>(&mut hand.token, CHECKSUM);
-    hand.made = hand.made.max((found / ABOVE) as u32);
-    hand.counts = hand.counts.loaded();
+    let checksum = look(hand, found);
     Peek {
-        checksum: (found % ABOVE) as u32,
+        checksum,
         changes: hand.made,
     }
 }
@@ -164,9 +176,7 @@ pub fn peek_sequence(board: &Board, hand: &mut Hand) -> u32
     ensures sequence { result ≡ sequence_after hand.old.token.me.0.about.start hand.new.token.me.0.seen }
 {
     let found = board.load::<PeeksAtSequence>(&mut hand.token, SEQUENCE);
-    hand.made = hand.made.max((found / ABOVE) as u32);
-    hand.counts = hand.counts.loaded();
-    (found % ABOVE) as u32
+    look(hand, found)
 }
 
 // Hands a number out.
