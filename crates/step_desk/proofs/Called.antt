@@ -65,7 +65,7 @@ at_most_one_word start past who [] one l = inl refl
 at_most_one_word start past who (what ∷ []) one l = one_word start past who what l
 at_most_one_word start past who (what ∷ again ∷ own) one l = absurd (omega (arith, one))
 
-abbrev list_in : Option (List ℕ) → List ℕ
+abbrev pub list_in : Option (List ℕ) → List ℕ
 list_in None = []
 list_in (Some xs) = xs
 
@@ -133,7 +133,7 @@ module _ (v : View) (a b : Seated) (k : IsKnown v) (f : From v a) (left : Left) 
 
   -- what the call left of the seat
   pub share_after : (table : TableId) (c c' : CallCounts) (left' : Left) → left'.own ≡ left.own → left'.holds ≡ left.holds → left'.ended ≡ left.ended → left'.places ≡ left.places → left'.room ≡ left.room →
-      left'.counts ≡ counts_of c' → After left' (share_of table v c) (share_of table (seeing v Idle b.region) c')
+      left'.counts ≡ counts_of c' v.turns → After left' (share_of table v c) (share_of table (seeing v Idle b.region) c')
   share_after table c c' left' own holds ended places room counts = record {
     same = record {
       who = refl;

@@ -11,7 +11,7 @@ use Rattle.step_desk.specs.declared.view.View.{View}
 use Rattle.step_desk.specs.Mirrors.{Words, changes_made}
 use Rattle.step_desk.specs.Numbers.{Among, GoesOn, numbers}
 use Rattle.step_desk.specs.Rule.{newcomer}
-use Rattle.step_desk.specs.Steps.{M, having_seen, Looked, LookedAt, keeper, handed, joined, longer, shorter, numbers_of_shorter, Follows}
+use Rattle.step_desk.specs.Steps.{M, having_seen, Looked, LookedAt, turned_away, keeper, handed, joined, longer, shorter, numbers_of_shorter, Follows}
 use Rattle.step_desk.specs.Passes.{IsKnown, PassIs}
 use Rattle.step_desk.proofs.Lists.{among_without, others_within, more_changes, by_lengths}
 use Rattle.step_desk.proofs.Passing.{numbers_answers}
@@ -32,6 +32,14 @@ looked_pass me new who made made' pass l is = subst (λ m. PassIs m who made') (
   ready = record { live = pass.ready.live; stage = pass.ready.stage; is = pass.ready.is; maker = pass.ready.maker; slots = pass.ready.slots };
   made_is = is;
   known = known_later me.0 l.later pass.known l.others l.lawful;
+})
+
+-- a pass that was refused the turn
+pub refused_pass : (me new : M) (who made : ℕ) → PassIs me who made → new ≡ (turned_away me.0, me.1) → PassIs new who made
+refused_pass me new who made pass is = subst (λ m. PassIs m who made) (sym is) (record {
+  ready = record { live = pass.ready.live; stage = pass.ready.stage; is = pass.ready.is; maker = pass.ready.maker; slots = pass.ready.slots };
+  made_is = pass.made_is;
+  known = record { maker = pass.known.maker; region = pass.known.region; lawful = pass.known.lawful; unreserved = pass.known.unreserved; hands = pass.known.hands };
 })
 
 -- what was found in a word that mirrors another

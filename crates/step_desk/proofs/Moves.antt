@@ -19,7 +19,7 @@ use Rattle.step_desk.specs.declared.view.Stage.TheVariants.{Idle, Holding, Count
 use Rattle.step_desk.specs.declared.view.View.{View}
 use Rattle.step_desk.specs.Mirrors.{Words, checksum_after, sequence_after, changes_made, mirror, Quiet}
 use Rattle.step_desk.specs.Rule.{Continues, StageIs, LiveIs, Views, Mirrored, TableIs}
-use Rattle.step_desk.specs.Steps.{M, seeing, having_seen, idle, IsReady, LookedAt, Carries, CanCount, OthersStand, takes_turn, seeing_slot, shows, counts, gives_turn, Looked, peeks_at_checksum, peeks_at_sequence, settles}
+use Rattle.step_desk.specs.Steps.{M, seeing, having_seen, idle, IsReady, LookedAt, turned_away, Carries, CanCount, OthersStand, takes_turn, seeing_slot, shows, counts, gives_turn, Looked, peeks_at_checksum, peeks_at_sequence, settles}
 use Rattle.step_desk.proofs.Lists.{none_append, none_made, none_first, none_second, lawful_before, more_changes, cut, by_lengths}
 use Rattle.step_desk.proofs.Views.{at_stage, views_set, other_live}
 
@@ -44,6 +44,28 @@ sees_all about seats now turn count turn' count' owner id v stage l is = record 
   heard_others = λ n a. absurd a;
   stage = is;
 }
+
+-- a pass that was refused the turn
+refused_live : (about : Local) (seats : ℕ) (now : Local) (turn count : ℕ) (owner : ℕ → ℕ) (id : ℕ) (v : View) → LiveIs about seats now turn count owner id v → LiveIs about seats now turn count owner id (turned_away v)
+refused_live about seats now turn count owner id v l = record {
+  about_is = l.about_is;
+  owns = l.owns;
+  later = l.later;
+  past = l.past;
+  others = l.others;
+  fresh = λ n a. let f = l.fresh n a in record { none = f.none; places = f.places; room = f.room; not_own = f.not_own; not_taken = f.not_taken };
+  places = l.places;
+  room = l.room;
+  heard = l.heard;
+  heard_past = l.heard_past;
+  heard_others = l.heard_others;
+  stage = same_stage v.stage l.stage;
+}
+  where
+    same_stage : (stage : Stage) → StageIs turn count now v stage → StageIs turn count now (turned_away v) stage
+    same_stage Idle s = s
+    same_stage Holding s = s
+    same_stage Counted s = s
 
 -- take the turn, and the region with it
 pub takes_allowed : (about : Local) (seats n id who : ℕ) (me : M) → IsReady who me →
@@ -96,7 +118,7 @@ takes_allowed about seats n id who me ready s r len at small =
 
     miss : get_or s.words 1 0 ≢ 0 → F (get_or s.words 1 0)
     miss held = (
-      me.0,
+      turned_away me.0,
       keeps,
       tt,
       record {
@@ -108,7 +130,7 @@ takes_allowed about seats n id who me ready s r len at small =
         sequence = r.sequence;
         words = ap (λ ws. set ws 1 (get_or ws 1 0)) r.words;
         few = r.few;
-        each = subst (Views about seats r.now r.turn r.count r.owner) (sym (set_again s.views id me.0 at)) r.each;
+        each = views_set about seats r.now r.turn r.count r.owner s.views id (turned_away me.0) (λ j u apart there live. r.each j u there live) (λ live. refused_live about seats r.now r.turn r.count r.owner id me.0 l);
         free = r.free;
         continues = r.continues;
         beyond = r.beyond;

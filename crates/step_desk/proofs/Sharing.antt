@@ -173,13 +173,13 @@ module _ (k : PassState) (a b : Seated) (last : M) (table : TableId) (m : Made k
   to_last : (c' : CallCounts) (P : ShareState → Type 0) → P (share_of k.table (seeing k.view Idle b.region) c') → P (share_of table last.0 c')
   to_last c' P p = subst (λ (t : TableId × View). P (share_of t.0 t.1 c')) (λ i. (sym m.here i, sym m.view i)) p
 
-  after_to : (left left' : Left) → SameLeft left left' → (c' : CallCounts) → left'.counts ≡ counts_of c' → After left (seat_state a) (seat_state b) → After left' (state_of k) (share_of table last.0 c')
+  after_to : (left left' : Left) → SameLeft left left' → (c' : CallCounts) → left'.counts ≡ counts_of c' k.view.turns → After left (seat_state a) (seat_state b) → After left' (state_of k) (share_of table last.0 c')
   after_to left left' s c' counts after = to_last c' (After left' (state_of k)) (share_after k.view a b m.known m.from left after k.table k.counts c' left' s.own s.holds s.ended s.places s.room counts)
 
-  pub goes_to : (left left' : Left) → SameLeft left left' → (c' : CallCounts) → left'.counts ≡ counts_of c' → Goes left (seat_state a) (seat_state b) → Goes left' (state_of k) (share_of table last.0 c')
+  pub goes_to : (left left' : Left) → SameLeft left left' → (c' : CallCounts) → left'.counts ≡ counts_of c' k.view.turns → Goes left (seat_state a) (seat_state b) → Goes left' (state_of k) (share_of table last.0 c')
   goes_to left left' s c' counts g = record { after = after_to left left' s c' counts g.after; not_due = λ alone due. not_alone alone }
 
-  fails_to : (c' : CallCounts) → (failed (state_of k)).counts ≡ counts_of c' → Fails (seat_state a) (seat_state b) → Fails (state_of k) (share_of table last.0 c')
+  fails_to : (c' : CallCounts) → (failed (state_of k)).counts ≡ counts_of c' k.view.turns → Fails (seat_state a) (seat_state b) → Fails (state_of k) (share_of table last.0 c')
   fails_to c' counts f = record {
     after = after_to (failed (seat_state a)) (failed (state_of k)) failed_same c' counts f.after;
     due = ((λ none. f.due.0 (m.from.continues.listed ∙ none)), (λ alone. absurd (not_alone alone)));
@@ -193,8 +193,8 @@ module _ (k : PassState) (a b : Seated) (last : M) (table : TableId) (m : Made k
       turns e = cc
 
   module _ (c c' : CallCounts) (same : c ≡ k.counts) where
-    counted : (f : CallCounts → CallCounts) → c' ≡ f c → counts_of (f k.counts) ≡ counts_of c'
-    counted f is = sym (ap counts_of (is ∙ ap f same))
+    counted : (f : CallCounts → CallCounts) → c' ≡ f c → counts_of (f k.counts) k.view.turns ≡ counts_of c' k.view.turns
+    counted f is = sym (ap (λ c. counts_of c k.view.turns) (is ∙ ap f same))
 
     stops_by : (stop : ShareStop) → c' ≡ counts_after_stop stop c → Stops stop (seat_state a) (seat_state b) → Stops stop (state_of k) (share_of table last.0 c')
     stops_by Failed is s = fails_to c' (counted (counts_after_stop Failed) is) s
@@ -217,7 +217,7 @@ module _ (k : PassState) (a b : Seated) (last : M) (table : TableId) (m : Made k
     ok_loaded (Ok x) is g = goes_to (loaded (seat_state a)) (loaded (state_of k)) loaded_same c' (counted (λ c. record c { loads = one_more c.loads }) is) g
     ok_loaded (Err stop) is g = g
 
-    pub ok_called : {T E : Type 0} (result : Result T E) (left left' : Left) → SameLeft left left' → left'.counts ≡ counts_of k.counts → OnOk result (c' ≡ c) → OnOk result (Goes left (seat_state a) (seat_state b)) →
+    pub ok_called : {T E : Type 0} (result : Result T E) (left left' : Left) → SameLeft left left' → left'.counts ≡ counts_of k.counts k.view.turns → OnOk result (c' ≡ c) → OnOk result (Goes left (seat_state a) (seat_state b)) →
         OnOk result (Goes left' (state_of k) (share_of table last.0 c'))
     ok_called (Ok x) left left' s counts is g = goes_to left left' s c' (counts ∙ counted (λ c. c) is) g
     ok_called (Err e) left left' s counts is g = g

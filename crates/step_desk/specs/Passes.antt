@@ -10,7 +10,7 @@ use Rattle.region_words.specs.Outside.{one_more}
 use Rattle.region_words.specs.Region.{Region, IsRegion}
 use Rattle.region_words.specs.Past.{has_died}
 use Rattle.region_words.specs.Lawful.{Lawful}
-use Rattle.region_words.specs.Share.{ShareState, Counts}
+use Rattle.region_words.specs.Share.{ShareState, Counts, IsSameShare}
 use Rattle.region_words.specs.Local.{Local, Seated, lock_after}
 use Rattle.region_words.specs.declared.event.Event.{Event}
 use Rattle.region_words.specs.declared.stops.ShareStop.{ShareStop}
@@ -28,7 +28,7 @@ pub record DeskState : Type 0 where
   pub about : Local
   pub seats : ℕ
 
--- of which desk a pass or a seat is, what it knows of it, and how often its calls failed, loaded, were answered Busy, and were refused the turn
+-- of which desk a pass or a seat is, what it knows of it, and how often its calls failed, loaded and were answered Busy
 pub record PassState : Type 0 where
   pub table : TableId
   pub view : View
@@ -39,15 +39,15 @@ abbrev pub HasShape : TableId → Type 0
 HasShape t = (t.words ≡ 4) × (t.slots ≡ 1)
 
 abbrev pub no_counts : CallCounts
-no_counts = record { faults = 0; loads = 0; busy = 0; turns = 0 }
+no_counts = record { faults = 0; loads = 0; busy = 0 }
 
-abbrev pub counts_of : CallCounts → Counts
-counts_of c = record { faults = c.faults; loads = c.loads; busy = c.busy; turns = c.turns }
+abbrev pub counts_of : CallCounts → ℕ → Counts
+counts_of c turns = record { faults = c.faults; loads = c.loads; busy = c.busy; turns = turns }
 
 -- the counts after a call that was not answered
 abbrev pub counts_after_stop : ShareStop → CallCounts → CallCounts
 counts_after_stop Failed c = record c { faults = one_more c.faults }
-counts_after_stop Turn c = record c { turns = one_more c.turns }
+counts_after_stop Turn c = c
 counts_after_stop Memory c = c
 counts_after_stop JournalFull c = c
 
@@ -106,17 +106,21 @@ share_of table v counts =
       room = λ w. if w == v.who then v.room else 0;
       fails = Some v.about.failing.listed;
       calls = 0;
-      counts = counts_of counts;
+      counts = counts_of counts v.turns;
       tag = tag_of table v;
     }
 
 abbrev pub state_of : PassState → ShareState
 state_of s = share_of s.table s.view s.counts
 
--- What a user of a seat knows of it after calls that know it as a share alone.
+-- the same place at the same desk, with the same numbers
 pub record StaysAt (old new : PassState) : Type 0 where
   pub table : new.table ≡ old.table
   pub who : new.view.who ≡ old.view.who
   pub hands : new.view.hands ≡ old.view.hands
   pub taken : new.view.taken ≡ old.view.taken
-  pub start : new.view.about.start ≡ old.view.about.start
+  pub fails : new.view.about.failing.listed ≡ old.view.about.failing.listed
+
+-- What no call on a share changes says of a seat where it is: a user that knows it as a share alone has lost nothing.
+abbrev pub SeatsStay : Type 0
+SeatsStay = (old new : PassState) → IsSameShare (state_of old) (state_of new) → StaysAt old new

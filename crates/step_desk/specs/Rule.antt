@@ -109,6 +109,7 @@ newcomer about seats =
       told_of = [];
       places = 0;
       room = 0;
+      turns = 0;
       hands = others_to seats;
       taken = [];
     }

@@ -5,6 +5,7 @@ use Rattle.lock_rules.specs.declared.limits.TheConstants.{MOST_OPENERS}
 use Rattle.region_words.specs.Region.{Region}
 use Rattle.region_words.specs.Past.{NoneOf}
 use Rattle.region_words.specs.Lawful.{Lawful}
+use Rattle.region_words.specs.Outside.{one_more}
 use Rattle.region_words.specs.Share.{made_by}
 use Rattle.region_words.specs.Local.{Local, reserved_in}
 use Rattle.region_words.specs.declared.event.What.{What}
@@ -52,8 +53,12 @@ pub record Took (me : M) (x : Local) (slot : Option Local) (new : M) : Type 0 wh
   pub places : reserved_in x me.0.who ≡ me.0.places
   pub room : room_in x me.0.who ≡ me.0.room
 
+-- the pass, after one more try that was refused the turn
+abbrev pub turned_away : View → View
+turned_away v = record v { turns = one_more v.turns }
+
 abbrev pub takes_turn : Step (Option Local) → M → ℕ → M → Type 0
-takes_turn s me found new = (found ≡ 0 → (x : Local) × Took me x (Some x) new) × (found ≢ 0 → new ≡ me)
+takes_turn s me found new = (found ≡ 0 → (x : Local) × Took me x (Some x) new) × (found ≢ 0 → new ≡ (turned_away me.0, me.1))
 
 -- the places and the rooms of the other openers stand
 abbrev pub OthersStand : ℕ → Local → Local → Type 0
@@ -148,7 +153,7 @@ keeper v n = record v { told = []; told_of = []; hands = without n v.hands }
 -- the pass of that number
 abbrev pub handed : View → ℕ → View
 handed v n =
-    record v { live = true; stage = Idle; who = n; told = []; told_of = []; places = 0; room = 0; hands = []; taken = [] }
+    record v { live = true; stage = Idle; who = n; told = []; told_of = []; places = 0; room = 0; turns = 0; hands = []; taken = [] }
 
 abbrev pub longer : List Event → List Event → List Event
 longer xs ys = if leb (length xs) (length ys) then ys else xs
@@ -194,6 +199,7 @@ spent =
       told_of = [];
       places = 0;
       room = 0;
+      turns = 0;
       hands = [];
       taken = [];
     }

@@ -6,13 +6,12 @@ ghost use Rattle.step_desk.specs.Passes.{counts_after_stop, counts_after_try, no
 use lock_rules::Tried;
 use region_words::{ShareStop, Unstored};
 
-/// How often the calls of a seat failed, loaded, found the lock taken, and were refused the turn.
+/// How often the calls of a seat failed, loaded, and found the lock taken.
 #[derive(Clone, Copy, Debug, PartialEq, Eq)]
 pub struct CallCounts {
     faults: u64,
     loads: u64,
     busy: u64,
-    turns: u64,
 }
 
 impl CallCounts {
@@ -23,7 +22,6 @@ impl CallCounts {
             faults: 0,
             loads: 0,
             busy: 0,
-            turns: 0,
         }
     }
 
@@ -44,10 +42,6 @@ impl CallCounts {
         match stop {
             ShareStop::Failed => CallCounts {
                 faults: self.faults.saturating_add(1),
-                ..self
-            },
-            ShareStop::Turn => CallCounts {
-                turns: self.turns.saturating_add(1),
                 ..self
             },
             _ => self,

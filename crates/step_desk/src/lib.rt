@@ -2,6 +2,7 @@
 #![tactic(auto)]
 
 mod counts;
+mod laws;
 mod plays;
 mod seat;
 mod steps;
@@ -9,6 +10,7 @@ mod table;
 mod view;
 
 pub use counts::CallCounts;
+pub use laws::a_seat_stays_at_its_desk;
 pub use seat::{Pass, Seat};
 pub use table::Desk;
 pub use view::{Stage, View};

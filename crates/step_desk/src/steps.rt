@@ -1,12 +1,12 @@
 // The steps of a pass on the table of its desk.
-ghost use Rattle.std.specs.Prelude.{◌≡◌, ◌≢◌, ◌+◌, ◌*◌, [], List, IfOk, IfErr, OnOk, true};
+ghost use Rattle.std.specs.Prelude.{◌/◌, ◌%◌, max, ◌≡◌, ◌≢◌, ◌+◌, ◌*◌, [], List, IfOk, IfErr, OnOk, true};
 ghost use Rattle.region_words.specs.Outside.{one_more};
 ghost use Rattle.region_words.specs.declared.event.What.{What};
 ghost use Rattle.region_words.specs.Local.{Local};
 ghost use Rattle.step_desk.specs.declared.view.Stage.TheVariants.{Counted, Idle};
 ghost use Rattle.step_desk.specs.Mirrors.{checksum_after, changes_made, sequence_after};
 ghost use Rattle.step_desk.specs.Numbers.{Among};
-ghost use Rattle.step_desk.specs.Steps.{IsReady, PutsBack, CanCount, Looked, HandsAreFresh, seeing, seeing_slot, idle, keeper, handed, joined, longer, shorter, numbers_of_shorter, Follows};
+ghost use Rattle.step_desk.specs.Steps.{IsReady, PutsBack, CanCount, Looked, HandsAreFresh, seeing, seeing_slot, idle, turned_away, keeper, handed, joined, longer, shorter, numbers_of_shorter, Follows};
 ghost use Rattle.step_desk.specs.Passes.{HasShape, IsShown, IsTaken, PassIs, counts_after_stop, no_counts};
 
 use crate::counts::CallCounts;
@@ -80,16 +80,14 @@ pub fn shown_of(seat: &LocalSeat) -> Shown
 // Tries once to take the turn, and the region with it.
 pub fn take(board: &Board, hand: &mut Hand) -> Result<Taken, ShareStop>
     requires table { (hand.old.token.table_id ≡ board.now.table_id) × HasShape board.now.table_id }
-    requires ready { IsReady hand.old.who hand.old.token.me }
-    ensures same { (hand.new.token.table_id ≡ hand.old.token.table_id) × (hand.new.who ≡ hand.old.who) × (hand.new.made ≡ hand.old.made) }
+    requires pass { PassIs hand.old.token.me hand.old.who hand.old.made }
+    ensures same { (hand.new.token.table_id ≡ hand.old.token.table_id) × (hand.new.who ≡ hand.old.who) × (hand.new.made ≡ hand.old.made) × (hand.new.counts ≡ hand.old.counts) }
     ensures ok { IfOk result (λ t. IsTaken hand.old.token.me t.region hand.new.token.me) }
     ensures before { IfOk result (λ t. IsShown t.before.checksum t.before.sequence t.before.changes t.before.events t.region.region.start t.region.region.past) }
-    ensures counts { OnOk result (hand.new.counts ≡ hand.old.counts) }
-    ensures err { IfErr result (λ stop. (stop ≡ ShareStop.Turn) × (hand.new.token.me ≡ hand.old.token.me)) }
-    ensures refused { IfErr result (λ stop. hand.new.counts ≡ counts_after_stop stop hand.old.counts) }
+    ensures err { IfErr result (λ stop. (stop ≡ ShareStop.Turn) × (hand.new.token.me ≡ (turned_away hand.old.token.me.0, hand.old.token.me.1))) }
+    ensures refused { IfErr result (λ _. PassIs hand.new.token.me hand.new.who hand.new.made) }
 {
     if board.compare_exchange::<Takes>(&mut hand.token, TURN, 0, u64::from(hand.who)) != 0 {
-        hand.counts = hand.counts.stopped(ShareStop::Turn);
         return Err(ShareStop::Turn);
     }
     let region = board.exchange(&mut hand.token, 0, None).unwrap();
@@ -135,6 +133,19 @@ pub fn put(board: &Board, hand: &mut Hand, taken: Taken)
     }
 }
 
+// Counts what was found in a mirrored word as a load, and gives the word that it mirrors. The number of changes beside it
+// may be that of a journal before the one that this pass has seen.
+fn look(hand: &mut Hand, found: u64) -> u32
+    ensures same { (hand.new.token ≡ hand.old.token) × (hand.new.who ≡ hand.old.who) }
+    ensures made { hand.new.made ≡ max hand.old.made (found / 4294967296) }
+    ensures counts { hand.new.counts ≡ record hand.old.counts { loads = one_more hand.old.counts.loads } }
+    ensures word { result ≡ found % 4294967296 }
+{
+    hand.made = hand.made.max((found / ABOVE) as u32);
+    hand.counts = hand.counts.loaded();
+    (found % ABOVE) as u32
+}
+
 // The checksum, and the number of changes at that moment.
 pub fn peek_checksum(board: &Board, hand: &mut Hand) -> Peek
     requires table { (hand.old.token.table_id ≡ board.now.table_id) × HasShape board.now.table_id }
@@ -147,10 +158,9 @@ pub fn peek_checksum(board: &Board, hand: &mut Hand) -> Peek
     ensures changes { result.changes ≡ hand.new.made }
 {
     let found = board.load::<PeeksAtChecksum>(&mut hand.token, CHECKSUM);
-    hand.made = hand.made.max((found / ABOVE) as u32);
-    hand.counts = hand.counts.loaded();
+    let checksum = look(hand, found);
     Peek {
-        checksum: (found % ABOVE) as u32,
+        checksum,
         changes: hand.made,
     }
 }
@@ -166,9 +176,7 @@ pub fn peek_sequence(board: &Board, hand: &mut Hand) -> u32
     ensures sequence { result ≡ sequence_after hand.old.token.me.0.about.start hand.new.token.me.0.seen }
 {
     let found = board.load::<PeeksAtSequence>(&mut hand.token, SEQUENCE);
-    hand.made = hand.made.max((found / ABOVE) as u32);
-    hand.counts = hand.counts.loaded();
-    (found % ABOVE) as u32
+    look(hand, found)
 }
 
 // Hands a number out.

@@ -32,6 +32,8 @@ pub struct View {
     pub places: u32,
     /// The size of the data file for which its opener has reserved room.
     pub room: u32,
+    /// How many of its tries were refused the turn.
+    pub turns: u64,
     /// The numbers that it may hand out.
     pub hands: LinkedList<u32>,
     /// The numbers that it has taken in.

@@ -1,9 +1,11 @@
-use Rattle.std.proofs.Common.{rules, refl, ◌∙◌, ap, subst}
+use Rattle.std.proofs.Common.{rules, refl, ◌≡◌, [], ◌∷◌, arith, ◌∙◌, ap, sym, subst}
+use Rattle.std.proofs.lemmas.Result.{err_from_is_err_and}
 use Rattle.region_words.specs.Local.{seat_state}
 use Rattle.region_words.specs.Share.{reserving}
 use Rattle.step_desk.specs.Passes.{IsKnown, PassState, state_of}
 use Rattle.step_desk.proofs.Carrying.{from_taken, ended_is, lock_is}
 use Rattle.step_desk.proofs.Sharing.{back, done, call_made, moved_reserve, ok_called, reserving_same, room_reserved, stops_reserving}
+use Rattle.step_desk.proofs.Peeking.{turned_reserving}
 use Rattle.step_desk.proofs.seat.SeatShare.reserve.Goals as goal
 
 pub reserve-outcome-requires-clause-alive : goal.reserve-outcome-requires-clause-alive
@@ -43,3 +45,10 @@ pub returns-clause-room : goal.returns-clause-room
 returns-clause-room c =
     let m = call_made c.self.inside.hand.token.me c.take.new.hand.token.me c.put.new.hand.token.me c.args.self.now c.in_ok-taken.taken.region c.reserve-outcome.new.self _ _ c.self.inside.hand.token.table_id c.put.new.hand.token.table_id c.self.inside.hand.counts c.self.view_is c.self.invariant.1 c.in_ok-taken.ensures.ok c.put.ensures.given (search rules) in
     room_reserved _ _ _ _ _ m c.put.new.hand.counts c.after_call-self-inside.result (search rules) c.reserve-outcome.result c.args.events c.args.size c.requires.held c.reserve-outcome.ensures.ok c.reserve-outcome.ensures.room
+
+pub returns-in_err-taken-clause-err : goal.returns-in_err-taken-clause-err
+returns-in_err-taken-clause-err c =
+    let p = err_from_is_err_and c.from_residual.result c.from_residual.ensures.1 in
+    rw (p.1, p.2)
+    (turned_reserving c.self.inside.hand.token.me c.take.new.hand.token.me c.args.self.now _ _ c.self.inside.hand.token.table_id c.take.new.hand.token.table_id c.self.inside.hand.counts c.take.new.hand.counts c.in_err-taken.field-0.0 c.self.view_is c.self.invariant.1
+    (search rules) (search rules) c.in_err-taken.ensures.err.0 c.in_err-taken.ensures.err.1 c.args.events)

@@ -1,7 +1,10 @@
-use Rattle.std.proofs.Common.{rules, ◌∙◌, ap, subst}
-use Rattle.step_desk.specs.Passes.{IsKnown, PassState}
+use Rattle.std.proofs.Common.{rules, refl, ◌≡◌, [], ◌∷◌, arith, ◌∙◌, ap, sym, subst}
+use Rattle.std.proofs.lemmas.Result.{err_from_is_err_and}
+use Rattle.region_words.specs.Local.{seat_state}
+use Rattle.step_desk.specs.Passes.{IsKnown, PassState, state_of}
 use Rattle.step_desk.proofs.Carrying.{from_taken, ended_is, lock_is}
 use Rattle.step_desk.proofs.Sharing.{back, done, call_made, moved_try, ok_tried, stops_trying}
+use Rattle.step_desk.proofs.Peeking.{turned_trying}
 use Rattle.step_desk.proofs.seat.SeatShare.try_lock.Goals as goal
 
 pub try_lock-outcome-requires-clause-alive : goal.try_lock-outcome-requires-clause-alive
@@ -36,3 +39,10 @@ pub returns-clause-err : goal.returns-clause-err
 returns-clause-err c =
     let m = call_made c.self.inside.hand.token.me c.take.new.hand.token.me c.put.new.hand.token.me c.args.self.now c.in_ok-taken.taken.region c.try_lock-outcome.new.self _ _ c.self.inside.hand.token.table_id c.put.new.hand.token.table_id c.self.inside.hand.counts c.self.view_is c.self.invariant.1 c.in_ok-taken.ensures.ok c.put.ensures.given (search rules) in
     stops_trying _ _ _ _ _ m c.put.new.hand.counts c.after_try-self-inside.result (search rules) c.try_lock-outcome.result c.args.kind c.after_try-self-inside.ensures.err c.try_lock-outcome.ensures.err
+
+pub returns-in_err-taken-clause-err : goal.returns-in_err-taken-clause-err
+returns-in_err-taken-clause-err c =
+    let p = err_from_is_err_and c.from_residual.result c.from_residual.ensures.1 in
+    rw (p.1, p.2)
+    (turned_trying c.self.inside.hand.token.me c.take.new.hand.token.me c.args.self.now _ _ c.self.inside.hand.token.table_id c.take.new.hand.token.table_id c.self.inside.hand.counts c.take.new.hand.counts c.in_err-taken.field-0.0 c.self.view_is c.self.invariant.1
+    (search rules) (search rules) c.in_err-taken.ensures.err.0 c.in_err-taken.ensures.err.1 c.args.kind)

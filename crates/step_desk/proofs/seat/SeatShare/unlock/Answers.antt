@@ -1,4 +1,4 @@
-use Rattle.std.proofs.Common.{rules, refl, arith, ◌∙◌, ap, sym, subst}
+use Rattle.std.proofs.Common.{rules, refl, ◌≡◌, [], ◌∷◌, arith, ◌∙◌, ap, sym, subst}
 use Rattle.std.proofs.lemmas.Result.{err_from_is_err_and}
 use Rattle.region_words.specs.Local.{seat_state}
 use Rattle.region_words.specs.Share.{unlocked_by}
@@ -51,4 +51,4 @@ returns-in_err-taken-clause-err c =
     let p = err_from_is_err_and c.from_residual.result c.from_residual.ensures.1 in
     rw (p.1, p.2)
     (turned_stop c.self.inside.hand.token.me c.take.new.hand.token.me c.args.self.now _ _ c.self.inside.hand.token.table_id c.take.new.hand.token.table_id c.self.inside.hand.counts c.take.new.hand.counts c.in_err-taken.field-0.0 c.self.view_is c.self.invariant.1
-    (search rules) c.in_err-taken.ensures.err.1 c.in_err-taken.ensures.err.0 c.in_err-taken.ensures.refused)
+    (search rules) (search rules) c.in_err-taken.ensures.err.0 c.in_err-taken.ensures.err.1)
