@@ -1,15 +1,22 @@
 // The stores of a directory, as a shelf.
-ghost use Rattle.std.specs.Prelude.{◌≡◌, ◌≢◌, ℕ, ◌≤◌, ◌∷◌, ◌++◌, Ok, None, length, OnOk, IfOk, IfErr, IfSome, IsOk};
+ghost use Rattle.std.specs.Prelude.{◌≡◌, ◌≢◌, ℕ, ◌≤◌, ◌∷◌, ◌++◌, Ok, Err, None, length, OnOk, IfOk, IfErr, IfSome, IsOk};
 ghost use Rattle.region_words.specs.Outside.{Rose, one_more};
 ghost use Rattle.region_words.specs.Stores.{Untold};
+ghost use Rattle.region_words.specs.declared.shelf.TheConstants.{LARGEST_DATA, LARGEST_META};
 ghost use Rattle.file_region.specs.Stopped.{IsStopped};
 
+use crate::placed::read_front;
+use crate::shared_file::SharedFile;
 use expiring_map::Bytes;
+use lock_rules::LockKind;
 use region_words::{Brought, LARGEST_DATA, LARGEST_META, Shelf, ShelfStop};
 use std::alloc::AllocError;
 use std::fs::{Files, OpenFile};
-use std::io::{Error, ErrorKind, Read};
+use std::io::{Error, ErrorKind};
 use std::{fs, io};
+
+// How often both files are read at most where the lock can't be had.
+const MOST_READINGS: u32 = 3;
 
 /// A directory with the two files `ID` and `ID.crc` of each store. It tells nothing of what they hold.
 #[derive(Drop)]
@@ -22,7 +29,10 @@ pub struct DirShelf<'a, R: Files + AllocGlobal> {
     missing: u64,
 }
 
-impl<'a, R: Files + AllocGlobal> DirShelf<'a, R> {
+impl<'a, R: Files + AllocGlobal> DirShelf<'a, R>
+where
+    R::File: SharedFile,
+{
     /// No call has failed on it, and no store was found absent.
     pub fn new(rt: &'a R, directory: Bytes) -> DirShelf<'a, R>
         ensures directory { result.directory ≡ directory }
@@ -67,13 +77,12 @@ impl<'a, R: Files + AllocGlobal> DirShelf<'a, R> {
         ShelfStop::Failed
     }
 
-    // The bytes of a file that was opened, where there is one.
-    fn read(
+    // A file that was opened, where there is one, once it has shown itself to be a regular one within its limit.
+    fn look_at(
         &mut self,
         opened: io::Result<R::File>,
         limit: usize,
-    ) -> Result<Option<Bytes>, ShelfStop>
-        ensures within { IfOk result (λ found. IfSome found (λ bytes. length bytes ≤ limit)) }
+    ) -> Result<Option<R::File>, ShelfStop>
         ensures found { IsOk opened → result ≢ Ok None }
         ensures missing { result ≡ Ok None → Rose self.old.missing self.new.missing }
         ensures stopped { IfErr result (IsStopped limit self.old.faults self.new.faults) }
@@ -82,7 +91,10 @@ impl<'a, R: Files + AllocGlobal> DirShelf<'a, R> {
         ensures absences { self.new.absences ≡ self.old.absences }
     {
         match opened {
-            Ok(file) => Ok(Some(self.read_within(file, limit)?)),
+            Ok(file) => {
+                self.size_of(&file, limit)?;
+                Ok(Some(file))
+            }
             Err(error) if error.kind() == ErrorKind::NotFound => {
                 self.missing = self.missing.saturating_add(1);
                 Ok(None)
@@ -91,12 +103,12 @@ impl<'a, R: Files + AllocGlobal> DirShelf<'a, R> {
         }
     }
 
-    fn read_within(&mut self, file: R::File, limit: usize) -> Result<Bytes, ShelfStop>
-        ensures within { IfOk result (λ bytes. length bytes ≤ limit) }
+    // The length of a regular file within its limit.
+    fn size_of(&mut self, file: &R::File, limit: usize) -> Result<usize, ShelfStop>
+        ensures within { IfOk result (λ size. size ≤ limit) }
         ensures stopped { IfErr result (IsStopped limit self.old.faults self.new.faults) }
-        ensures steady { OnOk result (self.new.faults ≡ self.old.faults) }
+        ensures same { OnOk result (self.new ≡ self.old) }
         ensures never_falls { self.old.faults ≤ self.new.faults }
-        ensures missing { self.new.missing ≡ self.old.missing }
         ensures absences { self.new.absences ≡ self.old.absences }
     {
         let Ok(metadata) = file.metadata() else {
@@ -109,24 +121,80 @@ impl<'a, R: Files + AllocGlobal> DirShelf<'a, R> {
         if size > limit as u64 {
             return Err(ShelfStop::SizeRefused(size));
         }
-        self.read_whole(file, size as usize)
+        Ok(size as usize)
     }
 
-    // The first bytes of a file, so many.
-    fn read_whole(&mut self, mut file: R::File, size: usize) -> Result<Bytes, ShelfStop>
-        ensures size { IfOk result (λ bytes. length bytes ≡ size) }
-        ensures stopped { (limit : ℕ) → IfErr result (IsStopped limit self.old.faults self.new.faults) }
-        ensures steady { OnOk result (self.new.faults ≡ self.old.faults) }
+    // The bytes of an open file.
+    fn read(&mut self, file: &R::File, limit: usize) -> Result<Bytes, ShelfStop>
+        ensures within { IfOk result (λ bytes. length bytes ≤ limit) }
+        ensures stopped { IfErr result (IsStopped limit self.old.faults self.new.faults) }
+        ensures same { OnOk result (self.new ≡ self.old) }
         ensures never_falls { self.old.faults ≤ self.new.faults }
-        ensures missing { self.new.missing ≡ self.old.missing }
         ensures absences { self.new.absences ≡ self.old.absences }
     {
+        let size = self.size_of(file, limit)?;
         let zeros = vec![in self.rt.alloc(); 0u8; size];
         let mut bytes = zeros.map_err(|_| ShelfStop::Memory)?;
-        match file.read_exact(&mut bytes) {
-            Ok(()) => Ok(Bytes::of_vec(bytes)),
-            Err(_) => Err(self.fault()),
+        match read_front(file, 0, &mut bytes) {
+            Ok(n) if n == size => Ok(Bytes::of_vec(bytes)),
+            _ => Err(self.fault()),
         }
+    }
+
+    // Both files, under the shared lock where it can be had at once: nobody stores while it is held.
+    fn read_both(&mut self, data: &R::File, meta: &R::File) -> Result<Brought, ShelfStop>
+        ensures data_size { IfOk result (λ b. length b.body ≤ LARGEST_DATA) }
+        ensures meta_size { IfOk result (λ b. length b.meta ≤ LARGEST_META) }
+        ensures there { result ≢ Err ShelfStop.Absent }
+        ensures failed { result ≡ Err ShelfStop.Failed → Rose self.old.faults self.new.faults }
+        ensures steady { result ≢ Err ShelfStop.Failed → self.new.faults ≡ self.old.faults }
+        ensures never_falls { self.old.faults ≤ self.new.faults }
+        ensures absences { self.new.absences ≡ self.old.absences }
+    {
+        match meta.ask_lock(LockKind::Shared) {
+            Ok(true) => {
+                let brought = self.read_once(data, meta);
+                let _ = meta.give_up_lock();
+                brought
+            }
+            _ => self.read_until_still(data, meta),
+        }
+    }
+
+    // Both files, read anew where the meta file isn't as it was before, and three times at most.
+    fn read_until_still(&mut self, data: &R::File, meta: &R::File) -> Result<Brought, ShelfStop>
+        ensures data_size { IfOk result (λ b. length b.body ≤ LARGEST_DATA) }
+        ensures meta_size { IfOk result (λ b. length b.meta ≤ LARGEST_META) }
+        ensures there { result ≢ Err ShelfStop.Absent }
+        ensures failed { result ≡ Err ShelfStop.Failed → Rose self.old.faults self.new.faults }
+        ensures steady { result ≢ Err ShelfStop.Failed → self.new.faults ≡ self.old.faults }
+        ensures never_falls { self.old.faults ≤ self.new.faults }
+        ensures absences { self.new.absences ≡ self.old.absences }
+    {
+        let mut before = self.read(meta, LARGEST_META)?;
+        for _ in 1..MOST_READINGS {
+            let brought = self.read_once(data, meta)?;
+            if brought.meta.as_slice() == before.as_slice() {
+                return Ok(brought);
+            }
+            before = brought.meta;
+        }
+        self.read_once(data, meta)
+    }
+
+    fn read_once(&mut self, data: &R::File, meta: &R::File) -> Result<Brought, ShelfStop>
+        ensures data_size { IfOk result (λ b. length b.body ≤ LARGEST_DATA) }
+        ensures meta_size { IfOk result (λ b. length b.meta ≤ LARGEST_META) }
+        ensures there { result ≢ Err ShelfStop.Absent }
+        ensures failed { result ≡ Err ShelfStop.Failed → Rose self.old.faults self.new.faults }
+        ensures steady { result ≢ Err ShelfStop.Failed → self.new.faults ≡ self.old.faults }
+        ensures never_falls { self.old.faults ≤ self.new.faults }
+        ensures absences { self.new.absences ≡ self.old.absences }
+        ensures same { OnOk result (self.new ≡ self.old) }
+    {
+        let body = self.read(data, LARGEST_DATA)?;
+        let meta = self.read(meta, LARGEST_META)?;
+        Ok(Brought { body, meta })
     }
 }
 
@@ -140,7 +208,10 @@ fn open_regular<R: Files>(files: &R, path: &str) -> io::Result<R::File> {
     fs::open(files, path)
 }
 
-impl<R: Files + AllocGlobal> Shelf for DirShelf<'_, R> {
+impl<R: Files + AllocGlobal> Shelf for DirShelf<'_, R>
+where
+    R::File: SharedFile,
+{
     ghost faults = { λ s. s.faults };
 
     ghost absences = { λ s. s.absences };
@@ -149,15 +220,15 @@ impl<R: Files + AllocGlobal> Shelf for DirShelf<'_, R> {
 
     fn bring(&mut self, id: &[u8]) -> Result<Brought, ShelfStop> {
         let opened = self.open(id, b"").map_err(|_| ShelfStop::Memory)?;
-        let Some(body) = self.read(opened, LARGEST_DATA)? else {
+        let Some(data) = self.look_at(opened, LARGEST_DATA)? else {
             self.absences = self.absences.saturating_add(1);
             return Err(ShelfStop::Absent);
         };
         let opened = self.open(id, b".crc").map_err(|_| ShelfStop::Memory)?;
-        match self.read(opened, LARGEST_META)? {
-            Some(meta) => Ok(Brought { body, meta }),
+        match self.look_at(opened, LARGEST_META)? {
+            Some(meta) => self.read_both(&data, &meta),
             None => Ok(Brought {
-                body,
+                body: self.read(&data, LARGEST_DATA)?,
                 meta: Bytes::of_vec(Vec::new(self.rt.alloc())),
             }),
         }
@@ -171,19 +242,23 @@ mod tests {
     use std::alloc::{Allocator, Global};
     use std::cell::Cell;
     use std::fs::{Metadata, OpenOptions};
-    use std::io::{Empty, Seek, SeekFrom, Write};
+    use std::io::{Empty, Read, Seek, SeekFrom, Write};
+    use std::os::unix::fs::FileExt;
     use std::process::Abort;
 
     fn unsupported<T>() -> io::Result<T> {
         Err(Error::from(ErrorKind::Unsupported))
     }
 
-    // An open file: what it says of itself, if it does, and the bytes that a read finds behind so many interruptions.
-    #[derive(Clone, Copy)]
+    // An open file: what it says of itself, if it does, and its bytes. So many of its first reads are interrupted. In so
+    // many of its first readings the first byte says how many are to come. Another process may hold its lock.
+    #[derive(Drop)]
     struct Sheet {
         says: Says,
-        left: &'static [u8],
-        interrupts: u32,
+        bytes: &'static [u8],
+        interrupts: Cell<u32>,
+        restless: Cell<u8>,
+        is_held: bool,
     }
 
     #[derive(Clone, Copy)]
@@ -194,11 +269,13 @@ mod tests {
     }
 
     impl Sheet {
-        fn of(says: Says) -> Sheet {
+        fn of(says: Says, bytes: &'static [u8]) -> Sheet {
             Sheet {
                 says,
-                left: b"abc",
-                interrupts: 0,
+                bytes,
+                interrupts: Cell::new(0),
+                restless: Cell::new(0),
+                is_held: false,
             }
         }
     }
@@ -211,13 +288,41 @@ mod tests {
         }
     }
 
-    impl Read for Sheet {
-        fn read(&mut self, buf: &mut [u8]) -> io::Result<usize> {
-            if let Some(left) = self.interrupts.checked_sub(1) {
-                self.interrupts = left;
+    impl FileExt for Sheet {
+        fn read_at(&self, buf: &mut [u8], offset: u64) -> io::Result<usize> {
+            if let Some(left) = self.interrupts.get().checked_sub(1) {
+                self.interrupts.set(left);
                 return Err(Error::from(ErrorKind::Interrupted));
             }
-            self.left.read(buf)
+            let rest = self.bytes.get(offset as usize..).unwrap_or(&[]);
+            let n = rest.len().min(buf.len());
+            buf[..n].copy_from_slice(&rest[..n]);
+            let restless = self.restless.get();
+            if restless > 0 && n > 0 {
+                buf[0] = restless;
+                self.restless.set(restless - 1);
+            }
+            Ok(n)
+        }
+
+        fn write_at(&self, _buf: &[u8], _offset: u64) -> io::Result<usize> {
+            Err(Error::from(ErrorKind::Unsupported))
+        }
+    }
+
+    impl SharedFile for Sheet {
+        fn ask_lock(&self, kind: LockKind) -> io::Result<bool> {
+            Ok(kind == LockKind::Shared && !self.is_held)
+        }
+
+        fn give_up_lock(&self) -> io::Result<()> {
+            Ok(())
+        }
+    }
+
+    impl Read for Sheet {
+        fn read(&mut self, _buf: &mut [u8]) -> io::Result<usize> {
+            Err(Error::from(ErrorKind::Unsupported))
         }
     }
 
@@ -256,15 +361,19 @@ mod tests {
     }
 
     fn whole(bytes: &'static [u8]) -> io::Result<Sheet> {
-        Ok(Sheet {
-            says: Says::Length(bytes.len() as u64),
-            left: bytes,
-            interrupts: 0,
-        })
+        Ok(Sheet::of(Says::Length(bytes.len() as u64), bytes))
     }
 
     fn sheet_of(len: u64) -> io::Result<Sheet> {
-        Ok(Sheet::of(Says::Length(len)))
+        Ok(Sheet::of(Says::Length(len), b"abc"))
+    }
+
+    fn restless(times: u8, is_held: bool) -> io::Result<Sheet> {
+        Ok(Sheet {
+            restless: Cell::new(times),
+            is_held,
+            ..Sheet::of(Says::Length(4), b"\0eta")
+        })
     }
 
     // A disk with a few files, which are read alone. It counts how often one was opened.
@@ -285,12 +394,18 @@ mod tests {
                 "home/wide.crc" => sheet_of(65_537),
                 "home/long" => sheet_of(67_108_865),
                 "home/short" => sheet_of(4),
-                "home/silent" | "home/mute" => Ok(Sheet::of(Says::Nothing)),
-                "home/folder" | "home/odd.crc" | "home/swapped" => Ok(Sheet::of(Says::Folder)),
+                "home/silent" | "home/mute" => Ok(Sheet::of(Says::Nothing, b"abc")),
+                "home/folder" | "home/odd.crc" | "home/swapped" => {
+                    Ok(Sheet::of(Says::Folder, b"abc"))
+                }
                 "home/signals" => Ok(Sheet {
-                    interrupts: 9,
-                    ..Sheet::of(Says::Length(3))
+                    interrupts: Cell::new(9),
+                    ..Sheet::of(Says::Length(3), b"abc")
                 }),
+                "home/free" | "home/held" | "home/calm" => whole(b"body"),
+                "home/free.crc" => restless(9, false),
+                "home/held.crc" => restless(9, true),
+                "home/calm.crc" => restless(1, true),
                 "home/shut" => Err(Error::from(ErrorKind::PermissionDenied)),
                 "home/half" => whole(b"half"),
                 "home/half.crc" => Err(Error::from(ErrorKind::PermissionDenied)),
@@ -360,7 +475,10 @@ mod tests {
         rt: &impl Abort,
         disk: &R,
         id: &[u8],
-    ) -> (Result<Brought, ShelfStop>, u64) {
+    ) -> (Result<Brought, ShelfStop>, u64)
+    where
+        R::File: SharedFile,
+    {
         assert!(rt; is_id(id));
         let home = Bytes::copy_of(disk.alloc(), b"home").expect(rt, "ample memory");
         let mut shelf = DirShelf::new(disk, home);
@@ -408,6 +526,22 @@ mod tests {
             let (answer, counted) = asked_twice(&rt, &disk, id);
             assert_eq!(rt; answer.err(), Some(want), "at {id:?}");
             assert_eq!(rt; counted, faults, "at {id:?}");
+        }
+    }
+
+    // The first byte of the meta file says which reading was taken.
+    #[test]
+    fn where_the_lock_is_held_files_are_read_until_they_stand_still(rt: HostRuntime) {
+        let disk = disk_of(rt.alloc());
+        let rows: [(&[u8], &[u8]); 3] = [
+            (b"free", b"\x09eta"),
+            (b"held", b"\x06eta"),
+            (b"calm", b"\0eta"),
+        ];
+        for (id, meta) in rows {
+            let (answer, _) = asked_twice(&rt, &disk, id);
+            let brought = answer.expect(&rt, "a store");
+            assert_eq!(rt; brought.meta.as_slice(), meta, "of {id:?}");
         }
     }
 

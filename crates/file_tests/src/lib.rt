@@ -14,4 +14,6 @@ mod sheet;
 #[cfg(test)]
 mod sheets;
 #[cfg(test)]
+mod shelves;
+#[cfg(test)]
 mod under_lock;
