@@ -1,6 +1,6 @@
 -- What an opener knows of its share's journal is carried over what others do, and over its own calls.
 use Rattle.std.proofs.Common.{◌≡◌, ◌≢◌, ℕ, zero, suc, ◌<◌, ◌≤◌, arith, Bool, true, false, cond, List, [], ◌∷◌, ◌++◌, length, take, refl, sym, ◌∙◌, subst, ap, append_assoc, length-append}
-use Rattle.std.specs.Prelude.{Option, Some, None, slice_get, IfSome, not, ◌==◌}
+use Rattle.std.specs.Prelude.{Option, Some, None, slice_get, IfSome, ◌==◌}
 use Rattle.std.proofs.lemmas.List.{take-append-le}
 use Rattle.std.proofs.lemmas.Bool.Decides.{nat_tests}
 use Rattle.change_log.specs.Acts.{act_of, replay}

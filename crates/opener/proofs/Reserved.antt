@@ -110,8 +110,11 @@ module _ (o : OpenerState) (running : Running) (plan : Plan) (s t : ShareState) 
         rests = λ held calm. absurd (storing_not_calm calm);
         work = (
           facts.work.0,
-          (facts.work.1.1, record { before = changes_of past; made = []; are = sym (append-nil (changes_of past)); begun = facts.work.0; all = tied.at.2.3 },
-            under_way_first o.who running start plan past facts.work.0 (ap (λ w. lock_of (locks_after past) w) (sym tied.who) ∙ lock ∙ tied.holds ∙ tied.at.2.0) facts.work.1.2),
+          (
+            facts.work.1.1,
+            record { before = changes_of past; made = []; are = sym (append-nil (changes_of past)); begun = facts.work.0; all = tied.at.2.3 },
+            under_way_first o.who running start plan past facts.work.0 (ap (λ w. lock_of (locks_after past) w) (sym tied.who) ∙ lock ∙ tied.holds ∙ tied.at.2.0) facts.work.1.2,
+          ),
         );
       })
     where

@@ -1,5 +1,5 @@
 -- Which stores are under way after a step.
-use Rattle.std.proofs.Common.{◌≡◌, ℕ, true, false, Bool, refl, sym, subst, ap}
+use Rattle.std.proofs.Common.{◌≡◌, ℕ, true, false, Bool, refl, sym, subst}
 use Rattle.std.specs.Prelude.{Option, Some, None}
 use Rattle.lock_rules.specs.declared.table.LockKind.{LockKind}
 use Rattle.region_words.specs.declared.stops.ShareStop.{ShareStop}

@@ -1,5 +1,5 @@
 -- Stores that are under way, as their events are made and others make theirs.
-use Rattle.std.proofs.Common.{◌≡◌, ℕ, ◌≤◌, false, true, cond, List, [], ◌∷◌, ◌++◌, length, length-append, ◌+◌, refl, sym, ap, ◌∙◌, subst, append-nil, append_assoc, ne_eqb, arith}
+use Rattle.std.proofs.Common.{◌≡◌, ℕ, ◌≤◌, true, cond, List, [], ◌∷◌, ◌++◌, length, length-append, ◌+◌, refl, sym, ap, ◌∙◌, subst, append-nil, append_assoc, ne_eqb, arith}
 use Rattle.std.specs.Prelude.{◌==◌, Some, None}
 use Rattle.std.proofs.lemmas.Bool.Decides.{nat_tests}
 use Rattle.lock_rules.specs.declared.table.LockKind.TheVariants.{Exclusive}

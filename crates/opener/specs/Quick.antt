@@ -1,5 +1,5 @@
 -- A quick read: two peeks, and what they say of the image that is kept.
-use Rattle.std.specs.Prelude.{◌≡◌, ◌≢◌, ℕ, ◌≤◌, ◌⊎◌, List, length, take, Option, Some, None, Result, Err, false, ⊤}
+use Rattle.std.specs.Prelude.{◌≡◌, ◌≢◌, ℕ, ◌≤◌, ◌⊎◌, List, length, take, Option, Some, None, Result, Err, ⊤}
 use Rattle.expiring_map.specs.Map.{Map}
 use Rattle.expiring_map.specs.Live.{value_at}
 use Rattle.change_log.specs.Acts.{replay}

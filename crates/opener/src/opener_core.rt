@@ -1,5 +1,5 @@
 // An opener without its handler: what it keeps between its calls, and its steps.
-ghost use Rattle.std.specs.Prelude.{◌≡◌, ℕ, ◌+◌, ◌*◌, ◌≤◌, None, Some, true, IfErr, OnErr, OnOk};
+ghost use Rattle.std.specs.Prelude.{◌≡◌, ℕ, ◌+◌, ◌*◌, ◌≤◌, None, Some, IfErr, OnErr, OnOk};
 ghost use Rattle.lock_rules.specs.declared.limits.TheConstants.{MOST_OPENERS};
 ghost use Rattle.region_words.specs.Told.{OnTold, changes_told as changes_seen};
 ghost use Rattle.opener.specs.Begins.{Begins, HasBytes, IsFirst, begun_at, refusal};

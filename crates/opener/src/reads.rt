@@ -137,7 +137,7 @@ impl OpenerCore {
 
 // What an opener is left with.
 impl OpenerCore {
-    ghost use Rattle.std.specs.Prelude.{◌≡◌, ◌≢◌, ◌<◌, ◌≤◌, None, Some, false, is_some, not};
+    ghost use Rattle.std.specs.Prelude.{◌≡◌, ◌≢◌, ◌<◌, ◌≤◌, None, Some, is_some, not};
     ghost use Rattle.opener.specs.Calls.{AfterStop};
     ghost use Rattle.opener.specs.Quick.{ended_as};
     ghost use Rattle.opener.specs.Ends.{GoesOn, Waits, IsDone, Finishes, Leaves, Reads, Notices, IsLoaded, IsReady, OnImage};

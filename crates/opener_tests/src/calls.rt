@@ -1,5 +1,5 @@
 // Calls of a new opener, over a region in memory and over any other share.
-ghost use Rattle.std.specs.Prelude.{◌≡◌, false, None, IfOk, IfSome};
+ghost use Rattle.std.specs.Prelude.{◌≡◌, false, None, IfSome};
 ghost use Rattle.opener.specs.Opener.{Tied};
 
 use change_log::Call;

@@ -1,11 +1,11 @@
 -- The handlers of openers, where an opener is opened, begins a call, or makes a step.
-use Rattle.std.proofs.Common.{◌≡◌, ◌≢◌, ℕ, zero, suc, ◌+◌, ◌-◌, ◌<◌, ◌⊎◌, Bool, true, false, cond, List, [], ◌∷◌, ◌++◌, length, set, refl, sym, ap, ◌∙◌, subst, inl, inr, arith}
+use Rattle.std.proofs.Common.{◌≡◌, ◌≢◌, ℕ, zero, suc, ◌-◌, ◌<◌, Bool, true, false, cond, List, [], ◌∷◌, ◌++◌, length, set, refl, sym, ap, ◌∙◌, subst, arith}
 use Rattle.std.specs.Prelude.{Option, Some, None, Result, Ok, Err, OnErr, OnOk, is_some, map, not, slice_get, ⊤}
 use Rattle.change_log.specs.declared.call.Call.{Call}
 use Rattle.opener.specs.Opener.{is_ended}
 use Rattle.opener.specs.State.{OpenerState}
 use Rattle.world.specs.Handlers.{HaveHandlers, is_alive, of_living}
-use Rattle.world.specs.Moves.{Begun, Moves, Opens}
+use Rattle.world.specs.Moves.{Begun, Moves}
 use Rattle.world.specs.World.{IsLiving, Lives, WorldState}
 use Rattle.world.specs.declared.moves.Moved.{Moved}
 use Rattle.world.specs.declared.moves.Moved.TheVariants.{NoOpener, Idle, Going, Blocked, Answered, Stopped}

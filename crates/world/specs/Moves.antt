@@ -1,5 +1,5 @@
 -- What a world's calls do.
-use Rattle.std.specs.Prelude.{◌≡◌, ◌≢◌, ℕ, ◌+◌, ◌-◌, ◌*◌, ◌<◌, ◌≤◌, List, [], ◌∷◌, ◌++◌, ◌^◌, ◌⊎◌, ◌==◌, if◌then◌else◌, length, slice_set, Bool, Some, None, true, ⊤}
+use Rattle.std.specs.Prelude.{◌≡◌, ◌≢◌, ℕ, ◌+◌, ◌-◌, ◌*◌, ◌<◌, ◌≤◌, List, [], ◌∷◌, ◌++◌, ◌^◌, ◌⊎◌, ◌==◌, if◌then◌else◌, length, slice_set, Bool, Some, None, ⊤}
 use Rattle.change_log.specs.History.{Legal}
 use Rattle.change_log.specs.declared.call.Answer.{Answer}
 use Rattle.change_log.specs.declared.call.Call.{Call}

@@ -9,9 +9,7 @@ mod stops;
 mod world;
 mod world_core;
 
-pub use laws::{
-    answers_count_loads_that_were_made, reserved_places_are_of_the_stores_under_way,
-};
+pub use laws::{answers_count_loads_that_were_made, reserved_places_are_of_the_stores_under_way};
 pub use moves::Moved;
 pub use openers::MOST_OPENERS;
 pub use stops::{NotOpened, OpenStop, WorldStop};
