@@ -1,6 +1,6 @@
 -- What a store more does to the stores that are gathered.
 use Rattle.std.proofs.Common.{◌≡◌, ℕ, ◌+◌, List, [], ◌∷◌, ◌++◌, length, refl, ap, ◌∙◌, arith}
-use Rattle.file_region.specs.Pages.{Run, placed, stores_of}
+use Rattle.file_region.specs.Pages.{placed}
 
 -- the right neighbour comes last
 pub placed-append : (first : ℕ) (words : List ℕ) (value : ℕ) → placed first (words ++ value ∷ []) ≡ placed first words ++ (first + length words, value) ∷ []

@@ -17,6 +17,11 @@ word_in first filled bytes word = if shows_in first filled bytes word then Some 
 abbrev pub word_seen : Window → ℕ → Option ℕ
 word_seen w word = word_in w.first w.filled w.bytes.items word
 
+-- the word that the windows of both files show
+abbrev pub seen : Side → Window → Window → ℕ → Option ℕ
+seen Data data_pages meta_page word = word_seen data_pages word
+seen Meta data_pages meta_page word = word_seen meta_page word
+
 -- words at consecutive places of a file, and the place of the first
 pub record Run : Type 0 where
   pub first : ℕ

@@ -36,7 +36,9 @@ pub enum OpenStop {
 }
 
 impl From<AllocError> for OpenStop {
-    fn from(_: AllocError) -> Self {
+    fn from(_: AllocError) -> Self
+        ensures { result ≡ OpenStop.Memory }
+    {
         OpenStop::Memory
     }
 }

@@ -1,8 +1,8 @@
 // The two open files of a store, with what is kept of them in memory while the lock is held.
-ghost use Rattle.std.specs.Prelude.{◌≡◌, ◌<◌, ◌≤◌, ◌%◌, ◌==◌, if◌then◌else◌, [], IfOk, OnOk};
+ghost use Rattle.std.specs.Prelude.{◌≡◌, ◌≢◌, ℕ, Some, None, Ok, ◌<◌, ◌≤◌, ◌%◌, ◌==◌, if◌then◌else◌, [], IfOk, OnOk};
 ghost use Rattle.kv_pairs.specs.Growth.{largest};
 ghost use Rattle.meta_record.specs.Words.{torn};
-ghost use Rattle.file_region.specs.Pages.{stores_of, Gathers};
+ghost use Rattle.file_region.specs.Pages.{stores_of, seen, word_seen, Gathers};
 
 use crate::gathered::Gathered;
 use crate::placed::{read_word, write_word};
@@ -70,7 +70,9 @@ impl<F: SharedFile> StoreFiles<F> {
 
     /// Writes what is gathered, gives the lock up, and keeps nothing of the files.
     pub fn give_up_lock(&mut self) -> io::Result<()>
-        ensures { OnOk result (stores_of self.new.gathered ≡ []) }
+        ensures gathered { OnOk result (stores_of self.new.gathered ≡ []) }
+        ensures data_pages { OnOk result ((word : ℕ) → word_seen self.new.data_pages word ≡ None) }
+        ensures meta_page { OnOk result ((word : ℕ) → word_seen self.new.meta_page word ≡ None) }
     {
         self.write_gathered()?;
         self.forget_pages();
@@ -101,7 +103,9 @@ impl<F: SharedFile> StoreFiles<F> {
     }
 
     /// A word under the lock.
-    pub fn load(&mut self, side: Side, word: u32) -> io::Result<u32> {
+    pub fn load(&mut self, side: Side, word: u32) -> io::Result<u32>
+        ensures { (value : ℕ) → seen side self.old.data_pages self.old.meta_page word ≡ Some value → result ≡ Ok value }
+    {
         let seen = match side {
             Side::Data => self.data_pages.word(word),
             Side::Meta => self.meta_page.word(word),
@@ -130,7 +134,8 @@ impl<F: SharedFile> StoreFiles<F> {
 
     /// Stores a word. That of the payload is gathered, any other is written.
     pub fn store(&mut self, side: Side, word: u32, value: u32) -> io::Result<()>
-        ensures { OnOk result (Gathers side word value self.old.gathered self.new.gathered) }
+        ensures gathered { OnOk result (Gathers side word value self.old.gathered self.new.gathered) }
+        ensures seen { OnOk result (seen side self.new.data_pages self.new.meta_page word ≢ None → seen side self.new.data_pages self.new.meta_page word ≡ Some value) }
     {
         match side {
             Side::Data => self.store_data(word, value),
@@ -144,7 +149,8 @@ impl<F: SharedFile> StoreFiles<F> {
     }
 
     fn store_data(&mut self, word: u32, value: u32) -> io::Result<()>
-        ensures { OnOk result (Gathers Side.Data word value self.old.gathered self.new.gathered) }
+        ensures gathered { OnOk result (Gathers Side.Data word value self.old.gathered self.new.gathered) }
+        ensures seen { OnOk result (word_seen self.new.data_pages word ≢ None → word_seen self.new.data_pages word ≡ Some value) }
     {
         if word == 0 {
             self.write_gathered()?;
@@ -187,7 +193,9 @@ impl<F: SharedFile> StoreFiles<F> {
     }
 
     fn forget_pages(&mut self)
-        ensures { stores_of self.new.gathered ≡ stores_of self.old.gathered }
+        ensures gathered { stores_of self.new.gathered ≡ stores_of self.old.gathered }
+        ensures data_pages { (word : ℕ) → word_seen self.new.data_pages word ≡ None }
+        ensures meta_page { (word : ℕ) → word_seen self.new.meta_page word ≡ None }
     {
         self.data_pages.empty();
         self.meta_page.empty();

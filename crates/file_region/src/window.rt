@@ -1,5 +1,5 @@
 // A few pages of a file, as they were read and as they were stored since.
-ghost use Rattle.std.specs.Prelude.{◌≡◌, ◌≢◌, ◌<◌, ◌≤◌, ◌*◌, ◌-◌, ◌+◌, ℕ, Some, None, IfOk, OnOk};
+ghost use Rattle.std.specs.Prelude.{◌≡◌, ◌≢◌, ◌<◌, ◌≤◌, ◌*◌, ◌-◌, ◌+◌, ℕ, Some, None, length, IfOk, OnOk};
 ghost use Rattle.file_region.specs.Pages.{shows_in, word_seen};
 
 use crate::placed::read_front;
@@ -26,7 +26,8 @@ impl Window {
     /// It is empty, and has room for so many pages.
     pub fn new(alloc: Global, pages: usize) -> Result<Window, AllocError>
         requires { pages ≤ 1024 }
-        ensures { IfOk result (λ window. (word : ℕ) → word_seen window word ≡ None) }
+        ensures empty { IfOk result (λ window. (word : ℕ) → word_seen window word ≡ None) }
+        ensures room { IfOk result (λ window. length window.bytes.items ≡ 4096 * pages) }
     {
         let bytes = vec![in alloc; 0u8; pages * PAGE]?;
         Ok(Window {
