@@ -19,4 +19,4 @@ mod Taking
 mod Ended
 mod Barred
 mod Marking
-mod Stocked
+pub mod Stocked

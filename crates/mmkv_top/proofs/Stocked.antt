@@ -62,3 +62,11 @@ module _ {A : Type 0} {Is : A → Type 0} (P : (x : A) × Is x → Type 0) (old 
   the_drawn =
       drawn_of (λ h. P (h.vtable, h.value)) old.discard.items new.discard.items old.recover.items new.recover.items old.leave.items new.leave.items drawn asked
       all.0 all.1 all.2 discard recover leave
+
+-- a stock of these lists
+pub of_lists : {A : Type 0} {Is : A → Type 0} (P : (x : A) × Is x → Type 0) (stock : HandlerStock A Is) (d r l : List (DynBox A Global Is)) →
+    All (λ h. P (h.vtable, h.value)) d → All (λ h. P (h.vtable, h.value)) r → All (λ h. P (h.vtable, h.value)) l →
+    stock.discard.items ≡ d → stock.recover.items ≡ r → stock.leave.items ≡ l → OfAll P stock
+unfolding OfAll
+of_lists P stock d r l hd hr hl d_is r_is l_is =
+    (subst (All (λ h. P (h.vtable, h.value))) (sym d_is) hd, subst (All (λ h. P (h.vtable, h.value))) (sym r_is) hr, subst (All (λ h. P (h.vtable, h.value))) (sym l_is) hl)

@@ -3,6 +3,7 @@ ghost use Rattle.std.specs.Prelude.{◌≡◌, [], All, IfOk, IfSome, replicate}
 ghost use Rattle.region_words.specs.Local.{no_account};
 ghost use Rattle.region_words.specs.Region.{IsAccepted};
 ghost use Rattle.world.specs.World.{IsSound};
+ghost use Rattle.mmkv_top.specs.Stocked.{OfAll};
 
 use crate::runs::{ran, shelf_with};
 use bstr::ByteSlice;
@@ -41,7 +42,9 @@ fn handlers(alloc: Global, strategy: Strategy) -> Result<Vec<Box<dyn Handler + S
 }
 
 // A stock of one handler, which leaves a damaged store as it is.
-fn one_handler(alloc: Global) -> Result<HandlerStock, AllocError> {
+fn one_handler(alloc: Global) -> Result<HandlerStock, AllocError>
+    ensures { IfOk result (λ stock. OfAll (λ h. (told h ≡ []) × (changes_told h ≡ [])) stock) }
+{
     Ok(HandlerStock::new(
         Vec::new(alloc),
         Vec::new(alloc),
@@ -93,9 +96,9 @@ fn fresh_world(alloc: Global, region: LocalRegion) -> World
     requires new { region.accounts ≡ replicate 65 no_account }
     requires steady { region.failing.listed ≡ [] }
     requires accepted { IsAccepted region.start }
-    ensures sound { IsSound result }
-    ensures unopened { result.openers ≡ [] }
-    ensures steady { result.region.failing.listed ≡ [] }
+    ensures sound { IsSound result.core }
+    ensures unopened { result.core.openers ≡ [] }
+    ensures steady { result.core.region.failing.listed ≡ [] }
 {
     World::new(alloc, region)
 }

@@ -1,4 +1,7 @@
 // Runs of the top call over stores in memory.
+ghost use Rattle.std.specs.Prelude.{◌≡◌, []};
+ghost use Rattle.mmkv_top.specs.Stocked.{OfAll};
+
 use expiring_map::{Bytes, Memory};
 use handlers::HandlerStock;
 use mmkv_top::{Status, run};
@@ -20,7 +23,9 @@ pub(crate) fn ran(
     mut input: MemSource,
     stock: HandlerStock,
     room: usize,
-) -> Result<(u8, Vec<u8>), Memory> {
+) -> Result<(u8, Vec<u8>), Memory>
+    requires { OfAll (λ h. (told h ≡ []) × (changes_told h ≡ [])) stock }
+{
     let mut line = Vec::new(alloc);
     for word in words {
         line.push(Bytes::copy_of(alloc, word)?)?;

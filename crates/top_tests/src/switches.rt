@@ -1,4 +1,7 @@
 // Scripts that switch the expiry, as the program plays them.
+ghost use Rattle.std.specs.Prelude.{◌≡◌, [], IfOk};
+ghost use Rattle.mmkv_top.specs.Stocked.{OfAll};
+
 use crate::plays::{has, joined, large_store, played_on};
 use crate::runs::{ran, shelf_with};
 use expiring_map::Memory;
@@ -12,7 +15,9 @@ use std::alloc::{AllocError, Global};
 use std::test::Fail;
 
 // A stock of two handlers, which leave a damaged store as it is.
-fn two_handlers(alloc: Global) -> Result<HandlerStock, AllocError> {
+fn two_handlers(alloc: Global) -> Result<HandlerStock, AllocError>
+    ensures { IfOk result (λ stock. OfAll (λ h. (told h ≡ []) × (changes_told h ≡ [])) stock) }
+{
     let mut leave: Vec<Box<dyn Handler + Send>> = Vec::new(alloc);
     leave.push(Box::new(alloc, Steady::new(alloc, Strategy::Leave))?)?;
     leave.push(Box::new(alloc, Steady::new(alloc, Strategy::Leave))?)?;

@@ -1,14 +1,10 @@
-use Rattle.std.proofs.Common.{◌≡◌, [], All, subst, sym}
-use Rattle.mmkv_top.specs.Stocked.{OfAll}
-use Rattle.mmkv_main.proofs.status_of.OwnLists.{own-1}
+use Rattle.mmkv_top.proofs.Stocked.{of_lists}
 use Rattle.mmkv_main.proofs.status_of.Goals as goal
 
 pub run-requires : goal.run-requires
-unfolding OfAll
-run-requires c = record {
-  fresh = (
-    subst (All (λ h. ((own-1.entry h.vtable).1.told h.value ≡ []) × ((own-1.entry h.vtable).1.changes_told h.value ≡ []))) (sym c.new-stock.ensures.discard) c.loop.invariant.0,
-    subst (All (λ h. ((own-1.entry h.vtable).1.told h.value ≡ []) × ((own-1.entry h.vtable).1.changes_told h.value ≡ []))) (sym c.new-stock.ensures.recover) c.loop.invariant.1,
-    subst (All (λ h. ((own-1.entry h.vtable).1.told h.value ≡ []) × ((own-1.entry h.vtable).1.changes_told h.value ≡ []))) (sym c.new-stock.ensures.leave) c.loop.invariant.2,
-  );
-}
+run-requires c =
+    record {
+      fresh =
+        of_lists _ c.new-stock.result c.loop.discard.items c.loop.recover.items c.loop.leave.items c.loop.invariant.0 c.loop.invariant.1 c.loop.invariant.2
+        c.new-stock.ensures.discard c.new-stock.ensures.recover c.new-stock.ensures.leave;
+    }
