@@ -1,5 +1,5 @@
 // Scripts of one opener at a region in memory, as the program plays them.
-ghost use Rattle.std.specs.Prelude.{◌≡◌, [], All, IfOk, IfSome, replicate};
+ghost use Rattle.std.specs.Prelude.{◌≡◌, [], All, IfOk, IfSome, OnOk, replicate};
 ghost use Rattle.region_words.specs.Local.{no_account};
 ghost use Rattle.region_words.specs.Region.{IsAccepted};
 ghost use Rattle.world.specs.World.{IsSound};
@@ -33,12 +33,28 @@ const PUT_ANSWER: &[u8] =
     b"answer 1 put 6b 03616263 0 now 100 begun 0 place 1 ended 2 loads 11 stores 13 locks 1 reply done\n";
 
 // One handler that always answers the same.
-fn handlers(alloc: Global, strategy: Strategy) -> Result<Vec<Box<dyn Handler + Send>>, AllocError>
+pub(crate) fn handlers(
+    alloc: Global,
+    strategy: Strategy,
+) -> Result<Vec<Box<dyn Handler + Send>>, AllocError>
     ensures { IfOk result (λ all. All (λ h. (told h ≡ []) × (changes_told h ≡ [])) all.items) }
 {
     let mut all: Vec<Box<dyn Handler + Send>> = Vec::new(alloc);
     all.push(Box::new(alloc, Steady::new(alloc, strategy))?)?;
     Ok(all)
+}
+
+// Adds a handler that was not asked or told anything yet.
+pub(crate) fn add(
+    all: &mut Vec<Box<dyn Handler + Send>>,
+    handler: Box<dyn Handler + Send>,
+) -> Result<(), AllocError>
+    requires so_far { All (λ h. (told h ≡ []) × (changes_told h ≡ [])) all.old.items }
+    requires new { (told handler ≡ []) × (changes_told handler ≡ []) }
+    ensures { OnOk result (All (λ h. (told h ≡ []) × (changes_told h ≡ [])) all.new.items) }
+{
+    all.push(handler)?;
+    Ok(())
 }
 
 // A stock of one handler, which leaves a damaged store as it is.

@@ -2,10 +2,10 @@
 ghost use Rattle.std.specs.Prelude.{◌≡◌, [], IfOk};
 ghost use Rattle.mmkv_top.specs.Stocked.{OfAll};
 
-use crate::plays::{has, joined, large_store, played_on};
+use crate::plays::{add, handlers, has, joined, large_store, played_on};
 use crate::runs::{ran, shelf_with};
 use expiring_map::Memory;
-use handlers::{Handler, HandlerStock, Steady, Strategy};
+use handlers::{HandlerStock, Steady, Strategy};
 use meta_record::{
     WORD_CHECKSUM, WORD_LAST_CHECKSUM, WORD_LAST_SIZE, WORD_SEQUENCE, WORD_SIZE, WORD_VERSION,
     store_word,
@@ -18,9 +18,11 @@ use std::test::Fail;
 fn two_handlers(alloc: Global) -> Result<HandlerStock, AllocError>
     ensures { IfOk result (λ stock. OfAll (λ h. (told h ≡ []) × (changes_told h ≡ [])) stock) }
 {
-    let mut leave: Vec<Box<dyn Handler + Send>> = Vec::new(alloc);
-    leave.push(Box::new(alloc, Steady::new(alloc, Strategy::Leave))?)?;
-    leave.push(Box::new(alloc, Steady::new(alloc, Strategy::Leave))?)?;
+    let mut leave = handlers(alloc, Strategy::Leave)?;
+    add(
+        &mut leave,
+        Box::new(alloc, Steady::new(alloc, Strategy::Leave))?,
+    )?;
     Ok(HandlerStock::new(Vec::new(alloc), Vec::new(alloc), leave))
 }
 
