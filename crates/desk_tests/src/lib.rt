@@ -7,3 +7,5 @@ mod desks;
 mod openers;
 #[cfg(test)]
 mod seats;
+#[cfg(test)]
+mod threads;

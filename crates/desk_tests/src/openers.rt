@@ -5,6 +5,7 @@ ghost use Rattle.region_words.specs.Share.{IsSameShare};
 
 use crate::desks::desk_of_two;
 use change_log::{Answer, Call, Reply};
+use crossbeam_utils::Backoff;
 use expiring_map::{Bytes, Memory};
 use handlers::{Handler, Steady, Strategy};
 use opener::{Opener, Step};
@@ -26,7 +27,7 @@ fn opener_of<S: Share>(alloc: Global, share: &S) -> Option<Opener>
     Some(Opener::new(alloc, share.who(), handler))
 }
 
-// The answer of a whole call, if it comes in so many steps.
+// The answer of a whole call, if it comes in so many steps. It is tried again where another has the turn or the lock.
 fn ask<S: Share>(opener: &mut Opener, share: &mut S, call: Call) -> Option<Answer>
     requires { Tied opener.old (S.state share.old) }
     ensures tied { Tied opener.new (S.state share.new) }
@@ -36,9 +37,11 @@ fn ask<S: Share>(opener: &mut Opener, share: &mut S, call: Call) -> Option<Answe
         mem::drop(refused);
         return None;
     }
-    for _ in 0..40_000u32 {
+    let backoff = Backoff::new();
+    for _ in 0..10_000_000u32 {
         match opener.step(share) {
             Step::Going => {}
+            Step::Again | Step::Blocked(_) => backoff.snooze(),
             Step::Answered(answer) => return Some(answer),
             _ => return None,
         }
@@ -47,7 +50,7 @@ fn ask<S: Share>(opener: &mut Opener, share: &mut S, call: Call) -> Option<Answe
 }
 
 // How many bytes the answer of a new opener's call has: those of a value, and none where it is done.
-fn size_of_answer<S: Share>(alloc: Global, share: &mut S, call: Call) -> Option<usize>
+pub(crate) fn size_of_answer<S: Share>(alloc: Global, share: &mut S, call: Call) -> Option<usize>
     requires alive { (S.state share.old).ended ≡ false }
     requires free { (S.state share.old).holds ≡ None }
     ensures { IsSameShare (S.state share.old) (S.state share.new) }
