@@ -1,5 +1,5 @@
 -- Before anything happened nobody holds a lock.
-use Rattle.std.proofs.Common.{◌≡◌, ℕ, []}
+use Rattle.std.proofs.Common.{◌≡◌, ℕ}
 use Rattle.std.specs.Prelude.{None}
 use Rattle.lock_rules.specs.Locks.{unlocked}
 use Rattle.region_words.specs.Share.{lock_of}

@@ -1,4 +1,4 @@
-use Rattle.std.proofs.Common.{◌≡◌, false, ◌||◌, not, refl, sym, ◌∙◌, ap, subst}
+use Rattle.std.proofs.Common.{false, ◌||◌, not, refl, sym, ◌∙◌, ap, subst}
 use Rattle.std.proofs.Crossing.{crosses}
 use denote.Param.Send.{sendable}
 use Rattle.step_desk.specs.Passes.{PassState, no_counts}
