@@ -9,3 +9,4 @@ pub mod Carrying
 pub mod Called
 pub mod Sharing
 pub mod Peeking
+pub mod Sent

@@ -14,7 +14,7 @@ use Rattle.step_desk.specs.declared.view.View.{View}
 use Rattle.step_desk.specs.Mirrors.{checksum_after, sequence_after}
 use Rattle.step_desk.specs.Rule.{is_admitted}
 use Rattle.step_desk.specs.Steps.{M, having_seen, Looked, turned_away}
-use Rattle.step_desk.specs.Passes.{IsKnown, PassIs, PassState, share_of, state_of, counts_of, counts_after_stop}
+use Rattle.step_desk.specs.Passes.{IsKnown, PassIs, PassState, share_of, state_of, counts_of}
 use Rattle.step_desk.proofs.Keeping.{known_later}
 use Rattle.step_desk.proofs.Called.{is_sound}
 

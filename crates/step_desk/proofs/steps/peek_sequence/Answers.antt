@@ -1,4 +1,4 @@
-use Rattle.std.proofs.Common.{rules, ℕ, ◌∙◌, sym, ap, subst}
+use Rattle.std.proofs.Common.{rules, ℕ, ◌∙◌, sym, subst}
 use Rattle.step_desk.specs.Mirrors.{sequence_after}
 use Rattle.step_desk.specs.Steps.{M}
 use Rattle.step_desk.specs.Passes.{PassIs}

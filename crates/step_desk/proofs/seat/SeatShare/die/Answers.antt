@@ -1,7 +1,6 @@
-use Rattle.std.proofs.Common.{rules, refl, ◌≡◌, [], ◌∷◌, arith, ◌∙◌, ap, sym, subst}
+use Rattle.std.proofs.Common.{rules, ◌∙◌, ap, subst}
 use Rattle.std.proofs.lemmas.Result.{err_from_is_err_and}
-use Rattle.region_words.specs.Local.{seat_state}
-use Rattle.step_desk.specs.Passes.{IsKnown, PassState, state_of}
+use Rattle.step_desk.specs.Passes.{IsKnown, PassState}
 use Rattle.step_desk.proofs.Carrying.{from_taken, ended_is, may_tear}
 use Rattle.step_desk.proofs.Sharing.{back, done, call_made, moved_death, ok_dies, stops_on}
 use Rattle.step_desk.proofs.Peeking.{turned_stop}

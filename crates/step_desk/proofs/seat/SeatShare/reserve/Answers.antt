@@ -1,4 +1,4 @@
-use Rattle.std.proofs.Common.{rules, refl, ◌≡◌, [], ◌∷◌, arith, ◌∙◌, ap, sym, subst}
+use Rattle.std.proofs.Common.{rules, refl, ◌∙◌, ap, subst}
 use Rattle.std.proofs.lemmas.Result.{err_from_is_err_and}
 use Rattle.region_words.specs.Local.{seat_state}
 use Rattle.region_words.specs.Share.{reserving}

@@ -1,8 +1,8 @@
-use Rattle.std.proofs.Common.{rules, refl, ◌≡◌, [], ◌∷◌, arith, ◌∙◌, ap, sym, subst}
+use Rattle.std.proofs.Common.{rules, arith, ◌∙◌, ap, subst}
 use Rattle.std.proofs.lemmas.Result.{err_from_is_err_and}
 use Rattle.region_words.specs.Local.{seat_state}
 use Rattle.region_words.specs.Share.{loaded}
-use Rattle.step_desk.specs.Passes.{IsKnown, PassState, state_of}
+use Rattle.step_desk.specs.Passes.{IsKnown, PassState}
 use Rattle.step_desk.proofs.Carrying.{from_taken, ended_is}
 use Rattle.step_desk.proofs.Sharing.{back, done, call_made, moved_by, ok_loaded, stops_on}
 use Rattle.step_desk.proofs.Peeking.{turned_stop}

@@ -1,4 +1,4 @@
-use Rattle.std.proofs.Common.{rules, refl, ◌≡◌, [], ◌∷◌, arith, ◌∙◌, ap, sym, subst}
+use Rattle.std.proofs.Common.{rules, refl, ◌≡◌, arith, ◌∙◌, ap, subst}
 use Rattle.region_words.specs.Local.{seat_state}
 use Rattle.region_words.specs.Share.{stored}
 use Rattle.region_words.specs.declared.event.What.TheVariants.{Store}
