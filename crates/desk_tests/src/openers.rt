@@ -18,7 +18,7 @@ use step_desk::a_seat_stays_at_its_desk;
 fn opener_of<S: Share>(alloc: Global, share: &S) -> Option<Opener>
     requires alive { (S.state share.now).ended ≡ false }
     requires free { (S.state share.now).holds ≡ None }
-    ensures { IfSome result (λ o. Tied o (S.state share.now)) }
+    ensures { IfSome result (λ o. Tied o.core (S.state share.now)) }
 {
     let handler: Box<dyn Handler + Send> = Box::new(
         alloc,
@@ -29,8 +29,8 @@ fn opener_of<S: Share>(alloc: Global, share: &S) -> Option<Opener>
 
 // The answer of a whole call, if it comes in so many steps. It is tried again where another has the turn or the lock.
 fn ask<S: Share>(opener: &mut Opener, share: &mut S, call: Call) -> Option<Answer>
-    requires { Tied opener.old (S.state share.old) }
-    ensures tied { Tied opener.new (S.state share.new) }
+    requires { Tied opener.old.core (S.state share.old) }
+    ensures tied { Tied opener.new.core (S.state share.new) }
     ensures same { IsSameShare (S.state share.old) (S.state share.new) }
 {
     if let Err(refused) = opener.begin(share, call, 100) {

@@ -15,7 +15,7 @@ use std::test::Fail;
 fn opener_of<S: Share>(alloc: Global, share: &S) -> Option<Opener>
     requires alive { (S.state share.now).ended ≡ false }
     requires free { (S.state share.now).holds ≡ None }
-    ensures { IfSome result (λ o. Tied o (S.state share.now)) }
+    ensures { IfSome result (λ o. Tied o.core (S.state share.now)) }
 {
     let steady = Steady::new(alloc, Strategy::Leave);
     let handler: Box<dyn Handler + Send> = Box::new(alloc, steady).ok()?;
@@ -39,7 +39,7 @@ fn reply_of<S: Share>(alloc: Global, share: &mut S, call: Call) -> Option<Reply>
 }
 
 fn finish<S: Share>(opener: &mut Opener, share: &mut S) -> Option<Reply>
-    requires { Tied opener.old (S.state share.old) }
+    requires { Tied opener.old.core (S.state share.old) }
 {
     for _ in 0..40_000u32 {
         match opener.step(share) {
