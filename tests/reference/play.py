@@ -1,10 +1,12 @@
 #!/usr/bin/env python3
-"""A reference model of the program: a second computation of what `dump` and `play` print, for several openers of which none dies.
+"""A reference model of the program: a second computation of what `dump` and `play` print.
 
     tests/reference/play.py DIR dump ID
     tests/reference/play.py DIR play ID < SCRIPT
+    tests/reference/play.py --ahead DIR play ID < SCRIPT
 
-The words are the program's own. The model was written from the rules of the format and of the script language, not from the program, and
+The words are the program's own. With `--ahead` it plays what the program doesn't have yet: deaths of openers, with torn words, starts that
+show no whole image, the exclusive lock of a read that met such an image, repairs, and what a handler answers to damage. The model was written from the rules of the format and of the script language, not from the program, and
 shares no code with it. It prints what the program must print and ends with the status that the program must end with (the table in
 README.md). It doesn't model faults of reading and writing beyond what Python reports, nor want of memory.
 
@@ -161,6 +163,17 @@ def with_items(pairs: Pairs, items: Iterator[Tuple[bytes, bytes]], expires: bool
     return pairs
 
 
+def greedy_pairs(payload: bytes, expires: bool) -> Pairs:
+    """The map of the items that a payload begins with, as far as it can be read; a value with no room for its expiry is passed over."""
+    read: List[Tuple[bytes, bytes]] = []
+    try:
+        for key, value in items_of(payload):
+            read.append((key, value))
+    except NoItems:
+        pass
+    return with_items({}, ((key, value) for key, value in read if not expires or not 1 <= len(value) <= 4), expires)
+
+
 def item(key: bytes, held: Optional[Held], expires: bool) -> bytes:
     """The bytes of an item; without a value it is a removal, which has no expiry."""
     value = b''
@@ -193,6 +206,14 @@ class Change:
     act: str
 
 
+@dataclass(frozen=True)
+class Torn:
+    """A store of a payload word in whose midst its opener dies."""
+    word: int
+    new: int
+    bits: int
+
+
 def filled_up(data: bytes) -> bytearray:
     """A file counts as followed by zeros up to whole pages, at least one."""
     pages = max(1, -(-len(data) // PAGE))
@@ -200,14 +221,16 @@ def filled_up(data: bytes) -> bytearray:
 
 
 class Region:
-    """Two files in memory, the changes made in them, and how many events the journal has and keeps places for."""
+    """Two files in memory, the changes made in them, how many events the journal has, and for how many each opener has a place. `mover` is
+    the opener whose operation it is."""
 
     def __init__(self, data: bytes, meta: bytes):
         self.data = filled_up(data)
         self.meta = filled_up(meta)
         self.changes: List[Change] = []
         self.events = 0
-        self.kept = 0
+        self.kept: Dict[int, int] = {}
+        self.mover = 0
         self.sharers: Set[int] = set()
         self.exclusive: Optional[int] = None
 
@@ -230,12 +253,13 @@ class Region:
 
     def keep(self, places: int, coming: int = 0) -> None:
         """Keeps so many places, and sees that there is one for so many events that come at once."""
-        if self.events + self.kept + places + coming > JOURNAL_LIMIT:
+        if self.events + sum(self.kept.values()) + places + coming > JOURNAL_LIMIT:
             raise JournalFull
-        self.kept += places
+        self.kept[self.mover] = self.kept.get(self.mover, 0) + places
 
-    def admit(self) -> None:
+    def admit(self, who: int) -> None:
         """A place for the opener's death."""
+        self.mover = who
         self.keep(1)
 
     # The operations of an opener, each one step of a call
@@ -268,11 +292,13 @@ class Region:
         self.events += 1
 
     def unlock(self, who: int) -> None:
+        self.leave(who)
+        self.use_place()
+
+    def leave(self, who: int) -> None:
         self.sharers.discard(who)
         if self.exclusive == who:
             self.exclusive = None
-        self.kept -= 1
-        self.events += 1
 
     def reserve(self, events: int) -> None:
         self.keep(events)
@@ -295,7 +321,20 @@ class Region:
             self.changes.append(change)
 
     def use_place(self) -> None:
-        self.kept -= 1
+        self.kept[self.mover] -= 1
+        self.events += 1
+
+    # A death
+
+    def die(self, who: int, torn: Optional[Torn]) -> None:
+        """The opener's lock is given up, and its places. A word that it was storing keeps the bytes on which old and new agree, and has those
+        of the bits for the others."""
+        if torn:
+            old = self.data[4 * torn.word:4 * torn.word + 4]
+            new, bits = struct.pack('<I', torn.new), struct.pack('<I', torn.bits)
+            self.data[4 * torn.word:4 * torn.word + 4] = bytes(o if o == n else b for o, n, b in zip(old, new, bits))
+        self.leave(who)
+        del self.kept[who]
         self.events += 1
 
 
@@ -397,6 +436,18 @@ class Image:
 
 
 @dataclass
+class Seen:
+    """What a load under a lock has seen: which image stands, or which damage there is, and the image, an empty one where there is damage."""
+    name: str
+    image: Image
+    loaded: bytearray = field(default_factory=bytearray)
+    record_size: int = 0
+
+    def is_whole(self) -> bool:
+        return self.name == 'whole'
+
+
+@dataclass
 class Running:
     """A call between its begin and its end."""
     call: Call
@@ -419,9 +470,11 @@ class Opener:
     """One opener. Cold where it keeps no image, as at first and after each stop."""
     who: int
     region: Region
+    strategy: str = 'leave'
     image: Optional[Image] = None
     holds: int = 0
     running: Optional[Running] = None
+    alive: bool = True
 
     def begin(self, call: Call, now: int) -> None:
         if self.running:
@@ -439,10 +492,9 @@ class Opener:
     def step(self) -> Optional[str]:
         """Makes the next operation of the call that runs. A line of text where the call ended with it or has to wait, else None."""
         running = self.running
+        self.region.mover = self.who
         try:
-            if not running.started:
-                running.started = True
-                running.next = next(running.steps)
+            self.look_ahead()
             method, *arguments = running.next
             answered = method(*arguments)
             self.count(running, method.__name__)
@@ -453,6 +505,26 @@ class Opener:
             self.running = None
             return self.end_text(running, end.value)
         return None
+
+    def look_ahead(self) -> None:
+        """The next operation of the call that runs, also before its first."""
+        if not self.running.started:
+            self.running.started = True
+            self.running.next = next(self.running.steps)
+
+    def die(self, bits: Optional[int]) -> None:
+        """The opener dies, within its next operation where bits are given and that stores a word of the payload."""
+        torn = None
+        if bits is not None and self.running:
+            try:
+                self.look_ahead()
+                method, *arguments = self.running.next
+                if method == self.region.store_data and arguments[0] != HEADER:
+                    torn = Torn(arguments[0], arguments[1], bits)
+            except StopIteration:
+                pass
+        self.region.die(self.who, torn)
+        self.alive = False
 
     @staticmethod
     def count(running: Running, operation: str) -> None:
@@ -494,25 +566,41 @@ class Opener:
         return Replied('done', len(self.region.changes))
 
     def read(self, call: Call, now: int) -> Steps:
-        """A warm opener that finds its checksum and sequence again answers from what it keeps, without a lock."""
+        """A warm opener that finds its checksum and sequence again answers from what it keeps, without a lock. One that loads and sees no
+        whole image takes the exclusive lock in the shared one's place, loads anew, and repairs what it sees then."""
         load, place = yield from self.notice()
-        if load:
-            if not self.holds:
-                yield (self.region.lock_shared, self.who)
-            self.image = yield from load()
-            place = len(self.region.changes)
-            if not self.holds:
-                yield (self.region.unlock, self.who)
-        return Replied(reply_of(call, self.image.pairs, now), place)
+        if not load:
+            return Replied(reply_of(call, self.image.pairs, now), place)
+        if not self.holds:
+            yield (self.region.lock_shared, self.who)
+        seen = yield from load()
+        raised = not seen.is_whole() and not self.holds
+        if raised:
+            yield (self.region.unlock, self.who)
+            yield (self.region.lock_exclusive, self.who)
+            seen = yield from self.full_load()
+        try:
+            yield from self.repair(seen)
+            end: Any = Replied(reply_of(call, self.image.pairs, now), len(self.region.changes))
+        except Stop as stop:
+            self.image = None
+            end = Stopped(stop.reason)
+        if raised:
+            yield (self.region.unlock, self.who)
+            yield (self.region.lock_shared, self.who)
+        if not self.holds:
+            yield (self.region.unlock, self.who)
+        return end
 
     def write(self, call: Call, now: int) -> Steps:
         """Under the exclusive lock: the image, the refusals, the events. A stop is answered after the lock is left."""
         if not self.holds:
             yield (self.region.lock_exclusive, self.who)
         load, _ = yield from self.notice()
-        if load:
-            self.image = yield from load()
         try:
+            if load:
+                seen = yield from load()
+                yield from self.repair(seen)
             place = yield from self.change(call, now)
             end = Replied('done', place)
         except Stop as stop:
@@ -521,6 +609,86 @@ class Opener:
         if not self.holds:
             yield (self.region.unlock, self.who)
         return end
+
+    def repair(self, seen: Seen) -> Steps:
+        """Under the exclusive lock, what isn't whole becomes so; a whole image is kept as it is. Where the handler leaves damage as it is,
+        and where the sequence can't be raised, the call is stopped."""
+        self.image = seen.image
+        if seen.is_whole():
+            return
+        if seen.name == 'header':
+            events: List[Operation] = [(self.region.store_meta, RECORD_SIZE, len(seen.image.payload))]
+        elif seen.image.sequence == LAST_SEQUENCE:
+            raise Stop('sequence-end')
+        elif seen.name == 'last':
+            events = self.restore_events()
+        elif self.strategy == 'discard':
+            events = self.discard_events()
+        elif self.strategy == 'recover':
+            payload = yield from self.readable(seen)
+            events = self.recover_events(payload)
+        else:
+            raise Stop(f'damaged {seen.name}')
+        yield (self.region.reserve, len(events))
+        for event in events:
+            yield event
+
+    def restore_events(self) -> List[Operation]:
+        """The last confirmed image becomes the one of header and record."""
+        image = self.image
+        image.sequence += 1
+        size = len(image.payload)
+        return [
+            (self.region.store_meta, SEQUENCE, image.sequence),
+            (self.region.store_data, HEADER, size),
+            (self.region.store_meta, RECORD_SIZE, size),
+            (self.region.store_meta, CHECKSUM, image.checksum, Change(self.who, f'restored {len(image.pairs)}')),
+        ]
+
+    def discard_events(self) -> List[Operation]:
+        """The store begins anew, without a pair."""
+        self.image.sequence += 1
+        return [
+            (self.region.store_meta, SEQUENCE, self.image.sequence),
+            (self.region.store_data, HEADER, 0),
+            (self.region.store_meta, RECORD_SIZE, 0),
+            (self.region.store_meta, CHECKSUM, 0, Change(self.who, 'discarded')),
+            (self.region.store_meta, LAST_SIZE, 0),
+            (self.region.store_meta, LAST_CHECKSUM, 0),
+        ]
+
+    def readable(self, seen: Seen) -> Steps:
+        """The payload of the record's size where it fits, else all bytes of the file behind the header."""
+        size = seen.record_size
+        if 4 + size > seen.image.file_size:
+            size = seen.image.file_size - 4
+        seen.loaded += yield from self.words(len(seen.loaded) // 4, size, whole=True)
+        return bytes(seen.loaded[:size])
+
+    def recover_events(self, payload: bytes) -> List[Operation]:
+        """The pairs that can be read are written anew. All three sizes are closed before the file grows and before the first word."""
+        image = self.image
+        pairs = greedy_pairs(payload, image.expires)
+        new = packed(pairs, image.expires)
+        size, checksum = len(new), zlib.crc32(new)
+        first, file_size = self.first_events(size, 0, len(pairs), image.file_size)
+        growth, sequence = first[:-1], first[-1]
+        events = [
+            sequence,
+            (self.region.store_meta, RECORD_SIZE, CLOSED),
+            (self.region.store_data, HEADER, CLOSED),
+            (self.region.store_meta, LAST_SIZE, CLOSED),
+        ]
+        events += growth + self.word_stores(new, 0)
+        events += [
+            (self.region.store_meta, CHECKSUM, checksum),
+            (self.region.store_meta, LAST_CHECKSUM, checksum),
+            (self.region.store_data, HEADER, size, Change(self.who, f'recovered {len(pairs)}')),
+            (self.region.store_meta, RECORD_SIZE, size),
+            (self.region.store_meta, LAST_SIZE, size),
+        ]
+        self.image = Image(pairs, bytearray(new), checksum, image.sequence + 1, image.version, image.expires, file_size)
+        return events
 
     def notice(self) -> Steps:
         """The load that brings the image, and the number of changes at the look at the checksum. None is wanted where both words are the
@@ -535,11 +703,11 @@ class Opener:
         return (None if checksum == self.image.checksum else self.partial_load), place
 
     def partial_load(self) -> Steps:
-        """The image to which the kept one goes on, else that of a full load."""
+        """The image to which the kept one goes on, else what a full load sees."""
         image = yield from self.longer_image()
         if image is None:
-            image = yield from self.full_load()
-        return image
+            return (yield from self.full_load())
+        return Seen('whole', image)
 
     def longer_image(self) -> Steps:
         """Three words of the record, the file's size where the record's doesn't fit the kept one, and the words from the one on in which
@@ -566,28 +734,42 @@ class Opener:
         return Image(pairs, payload, checksum, sequence, kept.version, kept.expires, file_size)
 
     def full_load(self) -> Steps:
-        """Ten loads, and then the payload's words. A region that doesn't show its record's image isn't met here: the command refuses such
-        a start, and only a death could leave one."""
+        """Ten loads, and then the payload's words, as many as are wanted for the first of three images that agrees with its checksum."""
         file_size = yield (self.region.size,)
         version = yield (self.region.load_meta, VERSION)
         flags = yield (self.region.load_meta, FLAGS_LOW)
         yield (self.region.load_meta, FLAGS_HIGH)
-        yield (self.region.load_meta, CHECKSUM)
+        checksum = yield (self.region.load_meta, CHECKSUM)
         sequence = yield (self.region.load_meta, SEQUENCE)
         size = yield (self.region.load_meta, RECORD_SIZE)
-        yield (self.region.load_meta, LAST_SIZE)
-        yield (self.region.load_meta, LAST_CHECKSUM)
-        yield (self.region.load_data, HEADER)
-        payload = yield from self.words(0, size)
-        return Image(map_of(bytes(payload), flags == 1), payload, zlib.crc32(payload), sequence, version, flags == 1, file_size)
+        last = yield (self.region.load_meta, LAST_SIZE)
+        last_checksum = yield (self.region.load_meta, LAST_CHECKSUM)
+        header = yield (self.region.load_data, HEADER)
+        expires = flags == 1
 
-    def words(self, first: int, size: int) -> Steps:
-        """The bytes of the payload of that size, from its word of that number on, by one load a word."""
+        def image_of(payload: bytes, pairs: Pairs) -> Image:
+            return Image(pairs, bytearray(payload), zlib.crc32(payload), sequence, version, expires, file_size)
+
+        loaded = bytearray()
+        for name, wanted, agreed in [('whole', size, checksum), ('header', header, checksum), ('last', last, last_checksum)]:
+            if 4 + wanted > file_size:
+                continue
+            loaded += yield from self.words(len(loaded) // 4, wanted, whole=True)
+            payload = bytes(loaded[:wanted])
+            if zlib.crc32(payload) == agreed:
+                try:
+                    return Seen(name, image_of(payload, map_of(payload, expires)), loaded, size)
+                except NoItems:
+                    return Seen('content', image_of(b'', {}), loaded, size)
+        return Seen('checksum' if 4 + size <= file_size else 'length', image_of(b'', {}), loaded, size)
+
+    def words(self, first: int, size: int, whole: bool = False) -> Steps:
+        """The bytes of the payload of that size, from its word of that number on, by one load a word; or all bytes of these words."""
         loaded = bytearray()
         for at in range(first, -(-size // 4)):
             word = yield (self.region.load_data, 1 + at)
             loaded += word.to_bytes(4, 'little')
-        return loaded[:size - 4 * first]
+        return loaded if whole else loaded[:size - 4 * first]
 
     def change(self, call: Call, now: int) -> Steps:
         """Refusals and events of a change, on the image that stands. The number of changes before its own."""
@@ -747,7 +929,7 @@ class BadLine(Exception):
 
 @dataclass(frozen=True)
 class Open:
-    pass
+    strategy: str
 
 
 @dataclass(frozen=True)
@@ -761,6 +943,12 @@ class Begin:
 class Step:
     who: int
     count: int
+
+
+@dataclass(frozen=True)
+class Die:
+    who: int
+    bits: Optional[int]
 
 
 def integer(word: bytes, low: int, high: int) -> int:
@@ -828,17 +1016,26 @@ def parse_call(words: List[bytes]) -> Call:
 
 
 def parse_line(line: bytes) -> Any:
-    """Open, Begin or Step; None for an empty line and for a comment. Words are separated by one space."""
+    """Open, Begin, Step or Die; None for an empty line and for a comment. Words are separated by one space."""
     if not line or line.startswith(b'#'):
         return None
     words = line.split(b' ')
     if words[0] == b'open' and len(words) == 2 and words[1] in (b'discard', b'recover', b'leave'):
-        return Open()
+        return Open(words[1].decode())
     if words[0] == b'begin' and len(words) >= 4:
         return Begin(number(words[1]), number(words[2]), parse_call(words[3:]))
     if words[0] == b'step' and len(words) == 3:
         return Step(number(words[1]), integer(words[2], 1, MOST_STEPS))
+    if words[0] == b'die' and len(words) in (2, 3):
+        return Die(number(words[1]), bits_of(words[2]) if len(words) == 3 else None)
     raise BadLine
+
+
+def bits_of(word: bytes) -> int:
+    """Eight hexadecimal digits of either case, the most significant first."""
+    if not re.fullmatch(rb'[0-9A-Fa-f]{8}', word):
+        raise BadLine
+    return int(word, 16)
 
 
 # ------------------------------------------------------------------------------------------------------------------------------------
@@ -883,8 +1080,9 @@ def region_text(region: Region) -> List[str]:
 
 @dataclass
 class Player:
-    """A script played on a region, line by line."""
+    """A script played on a region, line by line. Deaths are taken only ahead of the program."""
     region: Region
+    ahead: bool = False
     openers: List[Opener] = field(default_factory=list)
     lines: List[str] = field(default_factory=list)
 
@@ -901,21 +1099,26 @@ class Player:
 
     def play_line(self, line: Any) -> None:
         if isinstance(line, Open):
-            self.open()
+            self.open(line.strategy)
         elif isinstance(line, Begin):
             self.opener_of(line.who).begin(line.call, line.now)
         elif isinstance(line, Step):
             self.step(self.opener_of(line.who), line.count)
+        elif isinstance(line, Die):
+            if not self.ahead:
+                raise BadLine
+            self.opener_of(line.who).die(line.bits)
 
-    def open(self) -> None:
+    def open(self, strategy: str) -> None:
         """The next opener. There is a handler of each strategy for each."""
         if len(self.openers) == MOST_OPENERS:
             raise BadLine
-        self.region.admit()
-        self.openers.append(Opener(len(self.openers) + 1, self.region))
+        who = len(self.openers) + 1
+        self.region.admit(who)
+        self.openers.append(Opener(who, self.region, strategy))
 
     def opener_of(self, who: int) -> Opener:
-        if not 1 <= who <= len(self.openers):
+        if not 1 <= who <= len(self.openers) or not self.openers[who - 1].alive:
             raise BadLine
         return self.openers[who - 1]
 
@@ -962,12 +1165,13 @@ def dump(data: bytes, meta: bytes) -> List[str]:
     return region_text(region)
 
 
-def play(data: bytes, meta: bytes, script: Callable[[], bytes]) -> List[str]:
-    """What `play` prints for a store of these two files. The script is read once the store is known to show a whole image."""
+def play(data: bytes, meta: bytes, script: Callable[[], bytes], ahead: bool = False) -> List[str]:
+    """What `play` prints for a store of these two files. The script is read once the store is known to show a whole image, or is accepted,
+    ahead of the program."""
     region = checked_region(data, meta)
-    if not shown(region).whole:
+    if not ahead and not shown(region).whole:
         raise Ended(17, 'not yet')
-    player = Player(region)
+    player = Player(region, ahead)
     player.play(script())
     return player.lines + changes_text(region.changes) + region_text(region)
 
@@ -1013,18 +1217,19 @@ def bring(folder: bytes, store: bytes) -> Tuple[bytes, bytes]:
     return data, read_file(path + b'.crc', LARGEST_META) or b''
 
 
-def command(words: List[bytes]) -> List[str]:
+def command(words: List[bytes], ahead: bool) -> List[str]:
     if len(words) != 3 or words[1] not in (b'dump', b'play') or not id_is_valid(words[2]):
         raise Ended(2, 'usage')
     data, meta = bring(words[0], words[2])
     if words[1] == b'dump':
         return dump(data, meta)
-    return play(data, meta, sys.stdin.buffer.read)
+    return play(data, meta, sys.stdin.buffer.read, ahead)
 
 
 def main() -> int:
     words = [os.fsencode(word) for word in sys.argv[1:]]
-    status, text = ended(lambda: command(words))
+    ahead = words[:1] == [b'--ahead']
+    status, text = ended(lambda: command(words[1:] if ahead else words, ahead))
     sys.stdout.buffer.write(text)
     return status
 
