@@ -122,7 +122,9 @@ fn fresh_world(alloc: Global, region: LocalRegion) -> World
 // The status of a script that is played on a fresh world, and its text behind what stood in the buffer.
 fn played_behind(alloc: Global, before: &[u8], script: &[u8], cut: bool) -> Option<(u8, Vec<u8>)> {
     let mut world = fresh_world(alloc, fresh(alloc)?);
-    let mut stock = one_handler(alloc).ok()?;
+    let Ok(mut stock) = one_handler(alloc) else {
+        return None;
+    };
     let mut out = before.to_vec(alloc).ok()?;
     let status = play_on(alloc, &mut world, script, cut, &mut stock, &mut out);
     mem::drop(world);
