@@ -2,6 +2,7 @@
 use Rattle.std.proofs.Common.{◌≡◌, ◌≤◌, ℕ, Bool, true, false, arith, refl, sym, ◌∙◌, subst, ap}
 use Rattle.std.specs.Prelude.{Option, Some, None, nat_lt, not, ◌==◌, ◌&&◌, ◌||◌, ⊤}
 use Rattle.std.proofs.lemmas.Bool.Decides.{nat_tests}
+use Rattle.change_log.specs.declared.call.Answer.{Answer}
 use Rattle.change_log.specs.declared.call.Call.{Call}
 use Rattle.change_log.specs.declared.call.Call.TheVariants as call
 use Rattle.lock_rules.specs.declared.table.LockKind.{LockKind}
@@ -15,13 +16,13 @@ use Rattle.opener.specs.Begins.{IsFirst, IsFirstPlain, begun_at}
 use Rattle.opener.specs.Calls.{AfterStop, is_write}
 use Rattle.opener.specs.Counted.{with_stored}
 use Rattle.opener.specs.Ends.{Finishes, GoesOn, IsReady, IsReadyBy, Leaves, LeavesBy, Notices, Reads, ReadsBy, lock_by}
-use Rattle.opener.specs.Fresh.{CountedBy, CountsNone, CountsSoFar, HasCounted, answers_by_look}
+use Rattle.opener.specs.Fresh.{CountedBy, CountsLooks, CountsNone, CountsSoFar, HasCounted, answers_by_look}
 use Rattle.opener.specs.declared.calls.Step.{Step}
 use Rattle.opener.specs.declared.work.Running.{Running}
 use Rattle.opener.specs.declared.work.End.{End}
 use Rattle.opener.specs.declared.work.End.TheVariants as end
 use Rattle.opener.specs.declared.work.Stage.{Stage}
-use Rattle.opener.specs.declared.work.Stage.TheVariants.{Size, Unlock}
+use Rattle.opener.specs.declared.work.Stage.TheVariants.{PeekChecksum, PeekSequence, LockShared, LockExclusive, Continue, Load, Size, Reserve, Store, Unlock, Hold, Release}
 
 over_two : (n : ℕ) → 3 ≤ n → nat_lt 2 n ≡ true
 over_two n many = grind (arith, nat_tests)
@@ -51,6 +52,35 @@ stopped_counted Failed o running stage result new has after = subst (λ r. Count
 stopped_counted Memory o running stage result new has after = subst (λ r. CountedBy r stage new.work) (sym after.0) tt
 stopped_counted JournalFull o running stage result new has after = subst (λ r. CountedBy r stage new.work) (sym after.0) tt
 
+-- an answer that no look gives has no looks to count
+no_looks : (at : Stage) (a : Answer) → answers_by_look at ≡ false → CountsLooks at a
+no_looks (PeekSequence peek) a none = absurd cc
+no_looks PeekChecksum a none = tt
+no_looks (LockShared extent) a none = tt
+no_looks LockExclusive a none = tt
+no_looks (Continue loading) a none = tt
+no_looks (Load loading) a none = tt
+no_looks Size a none = tt
+no_looks (Reserve plan) a none = tt
+no_looks (Store plan) a none = tt
+no_looks (Unlock how) a none = tt
+no_looks Hold a none = tt
+no_looks Release a none = tt
+
+two_looks : (at : Stage) (a : Answer) → a.loads ≡ 2 → a.stores ≡ 0 → CountsLooks at a
+two_looks (PeekSequence peek) a loads stores = (loads, stores)
+two_looks PeekChecksum a loads stores = tt
+two_looks (LockShared extent) a loads stores = tt
+two_looks LockExclusive a loads stores = tt
+two_looks (Continue loading) a loads stores = tt
+two_looks (Load loading) a loads stores = tt
+two_looks Size a loads stores = tt
+two_looks (Reserve plan) a loads stores = tt
+two_looks (Store plan) a loads stores = tt
+two_looks (Unlock how) a loads stores = tt
+two_looks Hold a loads stores = tt
+two_looks Release a loads stores = tt
+
 -- what a call has counted that ends so after a load of the region
 abbrev pub EndCounted : End → Stage → Running → Type 0
 EndCounted (end.Answer place reply) at next = (answers_by_look at ≡ false) × (3 ≤ next.loads)
@@ -59,7 +89,7 @@ EndCounted (end.Stop why) at next = ⊤
 pub finishes_counted : (at : Stage) (next : Running) (how : End) (ended : ℕ) (mid : OpenerState) (result : Step) (new : OpenerState) → EndCounted how at next → Finishes next how ended mid result new →
     CountedBy result at new.work
 finishes_counted at next (end.Answer place reply) ended mid result new has is =
-    subst (λ r. CountedBy r at new.work) (sym is.0) (fresh_counts next.loads next.stores has.1 ∙ sym (ap not has.0))
+    subst (λ r. CountedBy r at new.work) (sym is.0) (fresh_counts next.loads next.stores has.1 ∙ sym (ap not has.0), no_looks at _ has.0)
 finishes_counted at next (end.Stop why) ended mid result new has is = subst (λ r. CountedBy r at new.work) (sym is.0) tt
 
 pub leaves_counted : (at : Stage) (next : Running) (how : End) (ended : ℕ) (mid : OpenerState) (result : Step) (new : OpenerState) → EndCounted how at next → Leaves next how ended mid result new →
@@ -86,7 +116,7 @@ ready_counted at next place ended mid result new sizes reads ready = go (is_writ
 
     looked : (how : End) → answers_by_look at ≡ true → ReadCounted true next → Finishes next how ended mid result new → CountedBy result at new.work
     looked (end.Answer place reply) looks has is =
-        subst (λ r. CountedBy r at new.work) (sym is.0) (few_counts next.loads next.stores 2 refl has.0 has.1 ∙ sym (ap not looks))
+        subst (λ r. CountedBy r at new.work) (sym is.0) (few_counts next.loads next.stores 2 refl has.0 has.1 ∙ sym (ap not looks), two_looks at _ has.0 has.1)
     looked (end.Stop why) looks has is = subst (λ r. CountedBy r at new.work) (sym is.0) tt
 
     read : (how : End) (b : Bool) → answers_by_look at ≡ b → ReadCounted b next → Leaves next how ended mid result new → CountedBy result at new.work

@@ -111,14 +111,14 @@ module _ (o : OpenerState) (running : Running) (peek : Peek) (result : Step) (ne
       go : (lock : Option LockKind) → lock_by o.holds next.taken ≡ lock → (extent : Extent) → FindsLoad (Some extent) peek o.image t → CanLoad extent o.image → LoadsBy lock extent next o result new →
           Steps o running (PeekSequence peek) result new s t
       go None none extent look can on =
-          loads_on tied (λ stored none. none) o next (LockShared extent) refl goes more look (λ looks. (refl, refl)) (asked_counted extent) on refl (λ so_far are. are)
+          loads_on tied (λ stored none. none) o next (LockShared extent) refl goes more (goes, look) (λ looks. (refl, refl)) (asked_counted extent) on refl (λ so_far are. are)
           (asks_shared o running next peek s t tied (loaded_same running next more) goes extent can (ap (lock_by o.holds) (sym (loaded_same running next more).taken) ∙ none)) (asked_shorter running next t peek extent) tt
       go (Some kind) held Full look can (loading, fresh, on) =
-          loads_on tied (λ stored none. none) o next (Load loading) refl goes more look (λ looks. (refl, refl)) (λ has. omega (arith, fresh.none)) on refl (λ so_far are. are)
+          loads_on tied (λ stored none. none) o next (Load loading) refl goes more (goes, look) (λ looks. (refl, refl)) (λ has. omega (arith, fresh.none)) on refl (λ so_far are. are)
           (whole_tied o running next (PeekSequence peek) s t (loaded s) tied goes.after same (may_load kind held) loading fresh)
           (plainly_shorter _ _ t refl (λ words. omega arith)) tt
       go (Some kind) held Partial look can (i, kept, on) =
-          loads_on tied (λ stored none. none) (record o { image = None }) next (Continue (going_on_from i)) refl goes more look (λ looks. (refl, sym kept)) (λ has. omega (arith, (counted_two has).0)) on refl (λ so_far are. are)
+          loads_on tied (λ stored none. none) (record o { image = None }) next (Continue (going_on_from i)) refl goes more (goes, look) (λ looks. (refl, sym kept)) (λ has. omega (arith, (counted_two has).0)) on refl (λ so_far are. are)
           (part_tied o running next (PeekSequence peek) s t (loaded s) tied goes.after same (may_load kind held) i kept)
           (plainly_shorter _ _ t refl (λ words. omega arith)) tt
 

@@ -20,7 +20,7 @@ use Rattle.opener.specs.Continues.{SameCall}
 use Rattle.opener.specs.Counted.{counted}
 use Rattle.opener.specs.Ends.{answer_of, GoesOn, IsDone, IsReady, Leaves, Replies, Waits, lock_by}
 use Rattle.opener.specs.Opener.{Tied, HasCause, IsAnswer, LooksUnder, KeepsCall, MayEnd, OnAnswer, is_storing, running_as, stop_found}
-use Rattle.opener.specs.Fresh.{CountedBy, CountsNone, CountsSoFar, HasCounted, answers_by_look}
+use Rattle.opener.specs.Fresh.{CountedBy, CountsLooks, CountsNone, CountsSoFar, HasCounted, answers_by_look}
 use Rattle.opener.specs.Steps.{ActsAt, IsKeptBy, IsPlaceOf, IsStillKept, KeepsImage, LeavesStores, Steps, peek_of}
 use Rattle.opener.specs.declared.calls.Step.{Step}
 use Rattle.opener.specs.declared.calls.Step.TheVariants as step
@@ -126,9 +126,9 @@ module _ {o : OpenerState} {running : Running} {stage : Stage} {result : Step} {
   -- a hold or a release is answered
   pub answers_done : StoresNothing stage → (next : Running) (loads : ℕ) (lock : Option LockKind) → Quietly loads lock s t → ((kind : LockKind) → lock ≡ Some kind → IsTried (Runs running stage) kind) → (holds place : ℕ) → IsDone next holds place o result new → SameCall running next →
       IsRaised running loads 0 (locks_taken None lock) next.loads next.stores next.locks → holds ≡ holds_after running.call o.holds →
-      ((so_far : List Change) → AreMadeAt o.who running stage so_far → AreOfCall o.who running.call running.now so_far) → ((a : Answer) → ActsAt (step.Answered a) stage o.image new.work s t) → answers_by_look stage ≡ true → IsPlaceOf (peek_of stage) (answer_of o.who next place place Done) →
+      ((so_far : List Change) → AreMadeAt o.who running stage so_far → AreOfCall o.who running.call running.now so_far) → ((a : Answer) → ActsAt (step.Answered a) stage o.image new.work s t) → answers_by_look stage ≡ true → ((a : Answer) → CountsLooks stage a) → IsPlaceOf (peek_of stage) (answer_of o.who next place place Done) →
       (HasCounted stage running → CountsNone next) → Tied (record o { holds = holds; work = Idle }) t → OnTold t.told (λ h. IsAnswer (answer_of o.who next place place Done) h.start h.past) → Steps o running stage result new s t
-  answers_done calm next loads lock did tried holds place done same more left made carried looks at none then answer =
+  answers_done calm next loads lock did tried holds place done same more left made carried looks unlooked at none then answer =
       record {
         tied = subst (λ (n : OpenerState). Tied n t) (sym done.1) then;
         makes = did.makes;
@@ -150,7 +150,7 @@ module _ {o : OpenerState} {running : Running} {stage : Stage} {result : Step} {
             (subst (λ b. IsKeptBy b (is_write next.call) o.image o.image t) (sym looks) refl));
         counts = λ has.
             let few = none has in
-            subst (λ r. CountedBy r stage new.work) (sym done.0) (few_counts next.loads next.stores 0 refl few.0 few.1 ∙ sym (ap not looks));
+            subst (λ r. CountedBy r stage new.work) (sym done.0) (few_counts next.loads next.stores 0 refl few.0 few.1 ∙ sym (ap not looks), unlooked (answer_of o.who next place place Done));
         falls = done_falls running next stage holds place o result new t done;
       }
 

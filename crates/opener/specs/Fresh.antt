@@ -47,9 +47,14 @@ abbrev pub CountsSoFar : Work → Type 0
 CountsSoFar (Runs running at) = HasCounted at running
 CountsSoFar _ = ⊤
 
+-- an answer after two looks has counted both, and no store
+abbrev pub CountsLooks : Stage → Answer → Type 0
+CountsLooks (PeekSequence peek) a = (a.loads ≡ 2) × (a.stores ≡ 0)
+CountsLooks at a = ⊤
+
 -- So it counts on. An answer is fresh just where it isn't given after a look, nor by a hold or a release.
 abbrev pub CountedBy : Step → Stage → Work → Type 0
-CountedBy (step.Answered a) at new = is_fresh a ≡ not (answers_by_look at)
+CountedBy (step.Answered a) at new = (is_fresh a ≡ not (answers_by_look at)) × CountsLooks at a
 CountedBy (step.Stopped why) at new = ⊤
 CountedBy _ at new = CountsSoFar new
 

@@ -3,11 +3,11 @@ use Rattle.std.specs.Prelude.{◌≡◌, ℕ, ◌+◌, Bool, true, false, List, 
 use Rattle.change_log.specs.declared.call.Answer.{Answer}
 use Rattle.lock_rules.specs.declared.table.LockKind.{LockKind}
 use Rattle.region_words.specs.Region.{IsAccepted}
-use Rattle.region_words.specs.Images.{sequence_at}
+use Rattle.region_words.specs.Images.{checksum_at, sequence_at}
 use Rattle.region_words.specs.Past.{region_after}
 use Rattle.region_words.specs.Making.{MakesFirst}
-use Rattle.region_words.specs.Share.{ShareState, Goes, reserving}
-use Rattle.region_words.specs.Told.{OnTold}
+use Rattle.region_words.specs.Share.{ShareState, Goes, loaded, reserving}
+use Rattle.region_words.specs.Told.{OnTold, changes_told}
 use Rattle.region_words.specs.declared.event.What.{What}
 use Rattle.region_words.specs.declared.stops.Peek.{Peek}
 use Rattle.loader.specs.Loads.{Load, loads_of}
@@ -78,6 +78,12 @@ next_load _ = None
 abbrev pub FindsLoad : Option Extent → Peek → Option Image → ShareState → Type 0
 FindsLoad extent peek image t = OnTold t.told (λ h. load_after image peek (sequence_at h.start h.past) ≡ extent)
 
+-- the second look follows the first, which saw the checksum of this moment
+abbrev pub LooksNext : Work → ShareState → ShareState → Type 0
+LooksNext (Runs running (stage.PeekSequence peek)) s t =
+    Goes (loaded s) s t × (peek.changes ≡ changes_told t.told) × OnTold t.told (λ h. peek.checksum ≡ checksum_at h.start h.past)
+LooksNext new s t = ⊥
+
 -- the tenth load of a region found its record accepted
 abbrev pub FindsAccepted : Load → ShareState → Type 0
 FindsAccepted loading t = loads_of loading ≡ 9 → OnTold t.told (λ h. IsAccepted (region_after h.start h.past))
@@ -96,11 +102,12 @@ ContinuesTo p (Runs running (stage.Load loading)) t = LoadFails p t
 ContinuesTo p (Runs running (stage.Unlock (end.Stop why))) t = why ≡ Memory
 ContinuesTo p new t = LoadHolds p t
 
--- What a step that goes on, or is answered, did at its stage: just the load is made for which the look asks, a partial load holds or
--- doesn't by what the region holds, a full one goes on only with an accepted record, the share is asked for exactly what a plan takes, and its events are made one by one.
+-- What a step that goes on, or is answered, did at its stage: the second look follows the first, just the load is made for which the two
+-- ask, a partial load holds or doesn't by what the region holds, a full one goes on only with an accepted record, the share is asked for exactly what a plan takes, and its events are made one by one.
 abbrev pub ActsAt : Step → Stage → Option Image → Work → ShareState → ShareState → Type 0
-ActsAt step.Going (stage.PeekSequence peek) image new s t = FindsLoad (next_load new) peek image t
-ActsAt (step.Answered a) (stage.PeekSequence peek) image new s t = FindsLoad None peek image t
+ActsAt step.Going stage.PeekChecksum image new s t = LooksNext new s t
+ActsAt step.Going (stage.PeekSequence peek) image new s t = Goes (loaded s) s t × FindsLoad (next_load new) peek image t
+ActsAt (step.Answered a) (stage.PeekSequence peek) image new s t = Goes (loaded s) s t × FindsLoad None peek image t
 ActsAt step.Going (stage.LockShared extent) image new s t = next_load new ≡ Some extent
 ActsAt step.Going (stage.Continue loading) image new s t = ContinuesTo loading new t
 ActsAt (step.Answered a) (stage.Continue loading) image new s t = LoadHolds loading t

@@ -23,7 +23,7 @@ returns-then-self-gt0 g c =
     let same : c.self.inside.holds ≡ o.holds = ap (λ (o : OpenerState). o.holds) c.self.view_is in
     let some = c.if-self-gt0.true in
     answers_done c.requires (λ stored none. none) running 0 None (still s) (λ kind is. absurd cc) _ _ c.done.ensures (same_call running) (none_more running) (ap (λ n. n + 1) same ∙ sym (ap (λ asked. holds_after asked o.holds) holding))
-    (λ so_far are. holds_none o.who running so_far holding are) (λ a. tt) refl (done_place running.call call.Hold _ refl holding) (λ has. has) (held_so o running _ s c.requires refl _ (omega (arith, some, same)) (omega arith) (omega (arith, same, c.requires.at.2.0)))
+    (λ so_far are. holds_none o.who running so_far holding are) (λ a. tt) refl (λ a. tt) (done_place running.call call.Hold _ refl holding) (λ has. has) (held_so o running _ s c.requires refl _ (omega (arith, some, same)) (omega arith) (omega (arith, same, c.requires.at.2.0)))
     (same_answer o running _ s c.requires refl _ (holds_call running.call holding) c.changes.ensures)
 
 pub try_lock-requires-clause-free : goal.try_lock-requires-clause-free
@@ -42,7 +42,7 @@ returns-in-Ok-Taken g c =
     let free = c.requires.holds ∙ own_if o.holds running.taken none ∙ c.requires.at.2.1 in
     let same = (locked_same running next Exclusive c.with_lock.ensures).0 in
     answers_done c.requires (λ stored none. none) next 0 (Some Exclusive) (lock_quietly Exclusive tries.0 free) (λ kind is. ap kind_of c.requires.at.1 ∙ is) 1 _ c.done-in-Ok-Taken.ensures same (lock_more Exclusive running next c.with_lock.ensures)
-    (sym (ap (λ asked. holds_after asked o.holds) c.requires.at.1 ∙ ap (λ n. n + 1) none)) (λ so_far are. holds_none o.who running so_far c.requires.at.1 are) (λ a. tt) refl
+    (sym (ap (λ asked. holds_after asked o.holds) c.requires.at.1 ∙ ap (λ n. n + 1) none)) (λ so_far are. holds_none o.who running so_far c.requires.at.1 are) (λ a. tt) refl (λ a. tt)
     (done_place next.call call.Hold _ refl (same.call ∙ c.requires.at.1))
     (λ has. (ap (λ (r : Running). r.loads) c.with_lock.ensures ∙ has.0, ap (λ (r : Running). r.stores) c.with_lock.ensures ∙ has.1)) (held_tied o running next _ _ c.requires tries) (first_answer o running next _ _ c.requires tries _ same c.changes-in-Ok-Taken.ensures)
 

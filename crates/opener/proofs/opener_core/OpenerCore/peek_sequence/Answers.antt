@@ -17,7 +17,7 @@ returns-in-None g c =
     let cur = none_asked o.image c.args.peek c.in-Ok.sequence none in
     let look = finds_load o.image c.args.peek c.in-Ok.sequence None (g.S.Share.state c.peek_sequence.new.self) none c.in-Ok.ensures.value in
     loads_ready c.requires (λ stored none. none) o _ _ _ cur.i (peeked_leaving o _ _ _ _ _ c.requires same c.in-Ok.ensures.ok) c.in-Ok.ensures.ok c.with_load.ensures c.requires.at.1
-    look (λ how replies. look) (λ a. look) c.ready.ensures c.changes.ensures refl cur.kept (looks_next o _ _ _ _ _ c.requires same c.in-Ok.ensures.ok) (λ so_far none. none) (λ looks. refl)
+    (c.in-Ok.ensures.ok, look) (λ how replies. (c.in-Ok.ensures.ok, look)) (λ a. (c.in-Ok.ensures.ok, look)) c.ready.ensures c.changes.ensures refl cur.kept (looks_next o _ _ _ _ _ c.requires same c.in-Ok.ensures.ok) (λ so_far none. none) (λ looks. refl)
     (λ has. omega (arith, has.0, ap (λ (r : Running). r.loads) c.with_load.ensures))
     (λ has read. (omega (arith, has.0, ap (λ (r : Running). r.loads) c.with_load.ensures), ap (λ (r : Running). r.stores) c.with_load.ensures ∙ has.1, same.taken ∙ c.requires.at.2.2 (ap is_write (sym same.same.call) ∙ read)))
     (current_ready o _ _ _ _ _ c.requires same c.in-Ok.ensures.ok _ cur c.in-Ok.ensures.value)

@@ -27,7 +27,7 @@ returns-then-self-gt1 g c =
     let same : c.self.inside.holds ≡ o.holds = ap (λ (o : OpenerState). o.holds) c.self.view_is in
     let more = c.if-self-gt1.true in
     answers_done c.requires (λ stored none. none) running 0 None (still s) (λ kind is. absurd cc) _ _ c.done.ensures (same_call running) (none_more running) (ap (λ n. n - 1) same ∙ sym (ap (λ asked. holds_after asked o.holds) releasing))
-    (λ so_far are. releases_none o.who running so_far releasing are) (λ a. tt) refl (done_place running.call call.Release _ refl releasing) (λ has. has) (held_so o running _ s c.requires refl _ c.requires.at.2 (omega (arith, more)) (omega (arith, same, c.requires.deep))) (same_answer o running _ s c.requires refl _ (releases_call running.call releasing) c.changes.ensures)
+    (λ so_far are. releases_none o.who running so_far releasing are) (λ a. tt) refl (λ a. tt) (done_place running.call call.Release _ refl releasing) (λ has. has) (held_so o running _ s c.requires refl _ c.requires.at.2 (omega (arith, more)) (omega (arith, same, c.requires.deep))) (same_answer o running _ s c.requires refl _ (releases_call running.call releasing) c.changes.ensures)
 
 pub returns-in-Ok : goal.returns-in-Ok
 returns-in-Ok g c =
@@ -37,7 +37,7 @@ returns-in-Ok g c =
     let last : 0 ≡ o.holds - 1 = omega (arith, c.if-self-gt1.false, ap (λ (o : OpenerState). o.holds) c.self.view_is) in
     answers_done c.requires (λ stored none. none) running 0 None (unlock_quietly c.in-Ok.ensures.ok) (λ kind is. absurd cc) 0 _ c.done-in-Ok.ensures (same_call running) (none_more running)
     (last ∙ sym (ap (λ asked. holds_after asked o.holds) releasing))
-    (λ so_far are. releases_none o.who running so_far releasing are) (λ a. tt) refl (done_place running.call call.Release _ refl releasing) (λ has. has) (released_tied o running _ _ c.in-Ok.ensures.ok c.requires) (last_answer o running _ _ c.in-Ok.ensures.ok c.requires _ c.changes-in-Ok.ensures)
+    (λ so_far are. releases_none o.who running so_far releasing are) (λ a. tt) refl (λ a. tt) (done_place running.call call.Release _ refl releasing) (λ has. has) (released_tied o running _ _ c.in-Ok.ensures.ok c.requires) (last_answer o running _ _ c.in-Ok.ensures.ok c.requires _ c.changes-in-Ok.ensures)
 
 pub returns-in-Err : goal.returns-in-Err
 returns-in-Err g c = stops c.requires c.in-Err.stop c.stopped.ensures c.in-Err.ensures.err
