@@ -146,3 +146,7 @@ module _ (o : OpenerState) (running : Running) (s t : ShareState) (goes : Goes (
       (λ start past region lawful lock facts e.
       done_answer o.who place running start (event_of s.who Unlock ∷ past)
       (omega (arith, facts.work.0, more_changes (event_of s.who Unlock ∷ []) past)) (releases_call running.call tied.at.1) e)
+
+-- the same by another word for the number of holds
+pub holds_are : (o : OpenerState) (n m : ℕ) (t : ShareState) → n ≡ m → Tied (record o { holds = m; work = Idle }) t → Tied (record o { holds = n; work = Idle }) t
+holds_are o n m t e tied = subst (λ k. Tied (record o { holds = k; work = Idle }) t) (sym e) tied

@@ -9,6 +9,7 @@ pub mod Ended
 pub mod Falling
 pub mod Followed
 pub mod GoneOn
+pub mod HoldCounts
 pub mod Holds
 pub mod TriedKinds
 pub mod Leading

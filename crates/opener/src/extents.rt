@@ -68,7 +68,7 @@ impl OpenerCore {
         requires { CanLoad extent self.old.image }
         ensures { LoadsNext extent running self.old result self.new }
     {
-        if self.holds > 0 || running.taken.is_some() {
+        if self.holds() > 0 || running.taken.is_some() {
             self.begin_load(running, extent)
         } else {
             self.going(running, Stage::LockShared(extent))

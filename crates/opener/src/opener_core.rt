@@ -19,6 +19,7 @@ use crate::refusals::refusal;
 use crate::work::{End, Running, Stage, Work};
 use change_log::Call;
 use loader::Image;
+use lock_rules::{LockCounts, LockKind};
 use region_words::Share;
 use std::alloc::Global;
 use std::marker::Model;
@@ -31,12 +32,13 @@ pub struct OpenerCore {
     pub(crate) alloc: Global,
     pub(crate) who: u32,
     pub(crate) image: Option<Image>,
-    pub(crate) holds: u32,
+    pub(crate) counts: LockCounts,
     pub(crate) work: Work,
 }
 
 impl Model for OpenerCore {
     ghost use Rattle.std.specs.Coded.{codes};
+    ghost use Rattle.std.specs.Prelude.{◌≡◌};
     ghost use Rattle.expiring_map.specs.contracts.map.ExpiringMap as map;
     ghost use Rattle.opener.specs.State.{OpenerState};
 
@@ -44,7 +46,10 @@ impl Model for OpenerCore {
 
     ghost coded = { Prim.hlevel (codes, map.the_row.coded) };
 
-    ghost view = { λ o. record { who = o.who; image = o.image; holds = o.holds; work = o.work } };
+    ghost view = { λ o. record { who = o.who; image = o.image; holds = o.counts.exclusive; work = o.work } };
+
+    // (a hold is exclusive; a shared lock is taken by a call, for itself alone)
+    ghost invariant = { λ o. o.counts.shared ≡ 0 };
 }
 
 impl OpenerCore {
@@ -58,7 +63,7 @@ impl OpenerCore {
             alloc,
             who,
             image: None,
-            holds: 0,
+            counts: LockCounts::new(),
             work: Work::Idle,
         }
     }
@@ -99,12 +104,19 @@ impl OpenerCore {
         mem::drop(mem::replace(&mut self.work, work));
     }
 
+    // How many holds it has.
+    pub(crate) fn holds(&self) -> u32
+        ensures { result ≡ self.now.holds }
+    {
+        self.counts.count(LockKind::Exclusive)
+    }
+
     fn refusal(&self, call: &Call) -> Option<Refused>
         ensures why { result ≡ refusal self.now call.now }
         ensures bytes { result ≡ None → HasBytes call.now }
     {
         match self.work {
-            Work::Idle => refusal(call, self.holds),
+            Work::Idle => refusal(call, self.holds()),
             Work::Ended => Some(Refused::Ended),
             Work::Runs { .. } => Some(Refused::CallRunning),
         }
@@ -116,7 +128,7 @@ impl OpenerCore {
         match call {
             Call::Hold => Stage::Hold,
             Call::Release => Stage::Release,
-            _ if is_write(call) && self.holds == 0 => Stage::LockExclusive,
+            _ if is_write(call) && self.holds() == 0 => Stage::LockExclusive,
             _ => self.noticing(None),
         }
     }

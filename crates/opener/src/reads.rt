@@ -11,7 +11,7 @@ use crate::reply::reply_in;
 use crate::work::{End, Extent, Running, Stage, Work};
 use change_log::{Answer, Call, Reply};
 use loader::{LoadStop, Loaded, Loading, Went};
-use lock_rules::{LockKind, Tried};
+use lock_rules::{Ask, Leave, LockCounts, LockKind, Tried};
 use meta_record::{RecordFault, Shown};
 use region_words::{Peek, Share, ShareStop};
 use std::alloc::Global;
@@ -105,16 +105,28 @@ impl OpenerCore {
         requires { Tied (running_as self.old running Stage.Hold) (S.state share.old) }
         ensures { Steps self.old running Stage.Hold result self.new (S.state share.old) (S.state share.new) }
     {
-        if self.holds > 0 {
-            let holds = self.holds + 1;
-            return self.done(running, holds, share.changes());
+        match self.counts.ask(LockKind::Exclusive) {
+            Ask::Counted => self.done(running, self.one_more(), share.changes()),
+            Ask::Take => self.take_hold(share, running),
+            Ask::GiveUpThenTake | Ask::TooDeep => unreachable!(),
         }
+    }
+
+    // The first of its holds takes the lock.
+    fn take_hold<S: Share>(&mut self, share: &mut S, running: Running) -> Step
+        requires tied { Tied (running_as self.old running Stage.Hold) (S.state share.old) }
+        requires none { self.old.holds ≡ 0 }
+        ensures { Steps self.old running Stage.Hold result self.new (S.state share.old) (S.state share.new) }
+    {
         match share.try_lock(LockKind::Exclusive) {
-            Ok(Tried::Taken) => self.done(
-                running.with_lock(LockKind::Exclusive),
-                1,
-                share.changes(),
-            ),
+            Ok(Tried::Taken) => {
+                let counts = self.one_more();
+                self.done(
+                    running.with_lock(LockKind::Exclusive),
+                    counts,
+                    share.changes(),
+                )
+            }
             Ok(Tried::Busy(holder)) => self.blocked(running, Stage::Hold, holder),
             Err(stop) => self.stopped(stop, running, Stage::Hold),
         }
@@ -124,12 +136,22 @@ impl OpenerCore {
         requires { Tied (running_as self.old running Stage.Release) (S.state share.old) }
         ensures { Steps self.old running Stage.Release result self.new (S.state share.old) (S.state share.new) }
     {
-        if self.holds > 1 {
-            let holds = self.holds - 1;
-            return self.done(running, holds, share.changes());
+        let mut counts = self.counts;
+        match counts.leave(LockKind::Exclusive) {
+            Leave::Counted => self.done(running, counts, share.changes()),
+            Leave::GiveUp => self.leave_hold(share, running),
+            Leave::BackToShared | Leave::NotHeld => unreachable!(),
         }
+    }
+
+    // The last of its holds gives the lock up.
+    fn leave_hold<S: Share>(&mut self, share: &mut S, running: Running) -> Step
+        requires tied { Tied (running_as self.old running Stage.Release) (S.state share.old) }
+        requires last { self.old.holds ≡ 1 }
+        ensures { Steps self.old running Stage.Release result self.new (S.state share.old) (S.state share.new) }
+    {
         match share.unlock() {
-            Ok(()) => self.done(running, 0, share.changes()),
+            Ok(()) => self.done(running, LockCounts::new(), share.changes()),
             Err(stop) => self.stopped(stop, running, Stage::Release),
         }
     }
@@ -137,11 +159,22 @@ impl OpenerCore {
 
 // What an opener is left with.
 impl OpenerCore {
-    ghost use Rattle.std.specs.Prelude.{◌≡◌, ◌≢◌, ◌<◌, ◌≤◌, None, Some, is_some, not};
+    ghost use Rattle.std.specs.Prelude.{◌≡◌, ◌≢◌, ◌<◌, ◌≤◌, ◌+◌, None, Some, is_some, not};
+    ghost use Rattle.lock_rules.specs.declared.limits.TheConstants.{DEEPEST_COUNT};
     ghost use Rattle.opener.specs.Calls.{AfterStop};
     ghost use Rattle.opener.specs.Quick.{ended_as};
     ghost use Rattle.opener.specs.Ends.{GoesOn, Waits, IsDone, Finishes, Leaves, Reads, Notices, IsLoaded, IsReady, OnImage};
     ghost use Rattle.opener.specs.Extents.{load_after};
+
+    // What it counts with one hold more.
+    fn one_more(&self) -> LockCounts
+        requires { self.now.holds < DEEPEST_COUNT }
+        ensures { result ≡ record { shared = 0; exclusive = self.now.holds + 1 } }
+    {
+        let mut counts = self.counts;
+        counts.took(LockKind::Exclusive);
+        counts
+    }
 
     // The call goes on with this stage.
     pub(crate) fn going(&mut self, running: Running, stage: Stage) -> Step
@@ -186,7 +219,7 @@ impl OpenerCore {
     pub(crate) fn end(&mut self)
         ensures { self.new ≡ ended_as self.old.who }
     {
-        self.holds = 0;
+        self.counts = LockCounts::new();
         self.image = None;
         self.set_work(Work::Ended);
     }
@@ -217,11 +250,12 @@ impl OpenerCore {
         }
     }
 
-    // A hold or a release is answered at this number of changes, and leaves so many holds.
-    fn done(&mut self, running: Running, holds: u32, place: u32) -> Step
-        ensures { IsDone running holds place self.old result self.new }
+    // A hold or a release is answered at this number of changes, and leaves these counts.
+    fn done(&mut self, running: Running, counts: LockCounts, place: u32) -> Step
+        requires { counts.shared ≡ 0 }
+        ensures { IsDone running counts.exclusive place self.old result self.new }
     {
-        self.holds = holds;
+        self.counts = counts;
         self.set_work(Work::Idle);
         Step::Answered(answer_of(self.who, running, place, place, Reply::Done))
     }
@@ -240,7 +274,7 @@ impl OpenerCore {
     pub(crate) fn reading(&self, taken: Option<LockKind>) -> Stage
         ensures { Reads self.now.holds taken result }
     {
-        if self.holds > 0 || taken.is_some() {
+        if self.holds() > 0 || taken.is_some() {
             Stage::Load(Loading::full(self.alloc))
         } else {
             Stage::LockShared(Extent::Full)
