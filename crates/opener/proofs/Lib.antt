@@ -23,6 +23,7 @@ pub mod PlanEvents
 pub mod Planned
 pub mod Planning
 pub mod RowEvents
+pub mod Tearing
 pub mod Turns
 pub mod QuickReads
 pub mod Quiet

@@ -49,7 +49,7 @@ owes_turned o (Runs running stage.Hold) s t owes away = none_reserved s t (turne
 owes_turned o (Runs running stage.Release) s t owes away = none_reserved s t (turned_away s) away.after owes
 
 -- the opener waits for its turn
-turned_tied : (o : OpenerState) (s t : ShareState) → Tied o s → IsTurnedAway s t → Tied o t
+pub turned_tied : (o : OpenerState) (s t : ShareState) → Tied o s → IsTurnedAway s t → Tied o t
 turned_tied o s t tied away =
     tied_after o o s t (turned_away s) (λ start past. ⊤) tied away.after refl tied.ended tied.holds tied.deep tied.sound tied.at (owes_turned o o.work s t tied.owes away) (nothing_told t.told)
     (λ start past region lawful lock facts e. facts)

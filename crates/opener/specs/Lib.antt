@@ -17,3 +17,4 @@ pub mod Quick
 pub mod Fresh
 pub mod Steps
 pub mod Refused
+pub mod Deaths

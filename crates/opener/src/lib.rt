@@ -2,6 +2,7 @@
 #![tactic(auto)]
 
 mod calls;
+mod deaths;
 mod extents;
 mod laws;
 mod opener;

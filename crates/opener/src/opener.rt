@@ -2,11 +2,13 @@
 ghost use Rattle.std.specs.Prelude.{◌≡◌, ◌↔◌, ℕ, [], ◌+◌, ◌*◌, ◌≤◌, IfErr, IsTrue, None, OnErr, OnOk, Some, is_some, not, option_copied};
 ghost use Rattle.expiring_map.specs.Live.{value_at};
 ghost use Rattle.lock_rules.specs.declared.limits.TheConstants.{MOST_OPENERS};
+ghost use Rattle.region_words.specs.Share.{IsTurnedAway};
 ghost use Rattle.region_words.specs.Told.{OnTold, changes_told as changes_seen};
 ghost use Rattle.loader.specs.Maps.{map_of_image};
 ghost use Rattle.opener.specs.Adds.{AddsTo};
 ghost use Rattle.opener.specs.Begins.{Begins, refusal};
 ghost use Rattle.opener.specs.Bound.{Falls, steps_left};
+ghost use Rattle.opener.specs.Deaths.{DiesAt};
 ghost use Rattle.opener.specs.Ends.{OnImage};
 ghost use Rattle.opener.specs.Fresh.{CountedBy, CountsSoFar, LoadsFew, loads_counted};
 ghost use Rattle.opener.specs.Handled.{HandlerStays};
@@ -25,6 +27,7 @@ use change_log::Call;
 use handlers::Handler;
 use region_words::Share;
 use std::alloc::Global;
+use std::mem;
 
 /// One opener of a shared region. It owns its handler until it ends, keeps the image that it loaded last, and makes its calls
 /// in steps of at most one call on its share.
@@ -93,6 +96,27 @@ impl Opener {
             self.handler = None;
         }
         came
+    }
+
+    /// The opener dies, and its lock is given up; its handler is dropped. Where its next step would store a payload word, a death
+    /// with `torn` leaves the bytes of that word on which the old one and the new one agree, and the others are those of `torn`,
+    /// little-endian. It is handed back with its handler where it isn't its turn on the share.
+    pub fn die<S: Share>(self, share: &mut S, torn: Option<u32>) -> Result<(), Opener>
+        requires { Tied self.core (S.state share.old) }
+        ensures dead { OnOk result (DiesAt self.core.work torn (S.state share.old) (S.state share.new)) }
+        ensures back { IfErr result (λ o. o.core ≡ self.core) }
+        ensures handler { IfErr result (λ o. o.handler ≡ self.handler) }
+        ensures turn { OnErr result (IsTurnedAway (S.state share.old) (S.state share.new)) }
+        ensures tied { IfErr result (λ o. Tied o.core (S.state share.new)) }
+    {
+        let Opener { core, handler } = self;
+        match core.die(share, torn) {
+            Ok(()) => {
+                mem::drop(handler);
+                Ok(())
+            }
+            Err(core) => Err(Opener { core, handler }),
+        }
     }
 
     /// Whether its share has failed. Then it makes no more calls.

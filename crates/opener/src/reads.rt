@@ -199,14 +199,14 @@ impl OpenerCore {
         self.run(running, stage);
         match stop {
             ShareStop::Turn => Step::Again,
-            ShareStop::Failed => self.die(),
+            ShareStop::Failed => self.fail(),
             ShareStop::Memory => self.give_up(Stop::Memory),
             ShareStop::JournalFull => self.give_up(Stop::JournalFull),
         }
     }
 
     // The share failed, and the opener ends.
-    fn die(&mut self) -> Step
+    fn fail(&mut self) -> Step
         ensures step { result ≡ Step.Stopped Stop.Fault }
         ensures who { self.new.who ≡ self.old.who }
         ensures left { (self.new.holds ≡ 0) × (self.new.image ≡ None) × (self.new.work ≡ Work.Ended) }
