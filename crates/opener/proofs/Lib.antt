@@ -4,6 +4,7 @@ pub mod AddsBy
 pub mod Begun
 pub mod Carry
 pub mod Counting
+pub mod Dying
 pub mod EndClauses
 pub mod Ended
 pub mod Falling

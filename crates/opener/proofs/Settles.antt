@@ -141,13 +141,13 @@ module _ (o : OpenerState) (start : Region) (others past : List Event) (own : Li
   stays_at c stage.Hold is mine so = stays_free o.who (Runs c stage.Hold) start others past own so so.of_call theirs
   stays_at c stage.Release is mine so = stays_free o.who (Runs c stage.Release) start others past own so so.of_call theirs
 
-  stays_by : (work : Work) → IsAt o work → lock_after past o.who ≡ lock_in o.holds work → IsSettledBy o.who work start past own → IsSettledBy o.who work start (others ++ past) own
+  pub stays_by : (work : Work) → IsAt o work → lock_after past o.who ≡ lock_in o.holds work → IsSettledBy o.who work start past own → IsSettledBy o.who work start (others ++ past) own
   stays_by Idle is mine so = stays_free o.who Idle start others past own so so.of_call theirs
   stays_by Ended is mine cut = stays_cut cut
   stays_by (Runs c at) is mine so = stays_at c at is mine so
 
 -- the lock that an opener holds by its history
-lock_is : (o : OpenerState) (s : ShareState) (h : History) → Tied o s → Knows o s h → lock_after h.past o.who ≡ lock_in o.holds o.work
+pub lock_is : (o : OpenerState) (s : ShareState) (h : History) → Tied o s → Knows o s h → lock_after h.past o.who ≡ lock_in o.holds o.work
 lock_is o s h tied knows = ap (lock_after h.past) (sym tied.who) ∙ knows.agrees.holds ∙ tied.holds
 
 pub others_settle : StaysSettled

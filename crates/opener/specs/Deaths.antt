@@ -1,10 +1,16 @@
 -- How an opener dies.
-use Rattle.std.specs.Prelude.{◌≡◌, ℕ, ◌⊎◌, List, ◌∷◌, Option, Some, None, ◌==◌, if◌then◌else◌}
+use Rattle.std.specs.Prelude.{◌≡◌, ℕ, ◌⊎◌, false, List, ◌∷◌, Option, Some, None, ◌==◌, if◌then◌else◌}
+use Rattle.change_log.specs.declared.call.Answer.{Answer}
 use Rattle.region_words.specs.Share.{ShareState, Dies, Fails}
+use Rattle.region_words.specs.Told.{OnTold}
 use Rattle.region_words.specs.declared.event.Side.TheVariants.{Data}
 use Rattle.region_words.specs.declared.event.What.{What}
 use Rattle.region_words.specs.declared.event.What.TheVariants.{Store}
 use Rattle.region_words.specs.declared.stops.TornStore.{TornStore}
+use Rattle.opener.specs.State.{OpenerState}
+use Rattle.opener.specs.Opener.{Tied, is_ended}
+use Rattle.opener.specs.Quick.{ended_as}
+use Rattle.opener.specs.Settles.{AreSettled}
 use Rattle.opener.specs.Writes.{first_events}
 use Rattle.opener.specs.declared.work.Stage.TheVariants as stage
 use Rattle.opener.specs.declared.work.Work.{Work}
@@ -24,3 +30,11 @@ torn_at work bits = None
 abbrev pub DiesAt : Work → Option ℕ → ShareState → ShareState → Type 0
 DiesAt Ended bits s t = t ≡ s
 DiesAt work bits s t = Dies (torn_at work bits) s t ⊎ Fails s t
+
+-- one that lived is ended then,
+abbrev pub DeathEnds : OpenerState → ShareState → Type 0
+DeathEnds o t = is_ended o.work ≡ false → Tied (ended_as o.who) t
+
+-- and what it answered before is settled, with all that others changed meanwhile
+abbrev pub DeathSettles : OpenerState → ShareState → ShareState → Type 0
+DeathSettles o s t = is_ended o.work ≡ false → (own : List Answer) → OnTold s.told (AreSettled o own) → OnTold t.told (AreSettled (ended_as o.who) own)

@@ -2,23 +2,41 @@
 ghost use Rattle.std.specs.Prelude.{◌≡◌, IfErr, OnErr, OnOk, Some};
 ghost use Rattle.region_words.specs.Making.{next_of};
 ghost use Rattle.region_words.specs.Share.{IsTurnedAway};
-ghost use Rattle.opener.specs.Deaths.{DiesAt, torn_at, torn_first};
+ghost use Rattle.opener.specs.Deaths.{DeathEnds, DeathSettles, DiesAt, torn_at, torn_first};
 ghost use Rattle.opener.specs.Opener.{Tied};
+ghost use Rattle.opener.specs.Quick.{ended_as};
 ghost use Rattle.opener.specs.Writes.{first_events};
 
 use crate::opener_core::OpenerCore;
 use crate::plan::Plan;
 use crate::work::{Stage, Work};
+use lock_rules::LockCounts;
 use region_words::{Next, Share, ShareStop, Side, TornStore};
+use std::alloc::Global;
 use std::mem;
 
 impl OpenerCore {
+    /// An opener of this number that has ended. It makes no calls.
+    pub fn ended(alloc: Global, who: u32) -> OpenerCore
+        ensures { result ≡ ended_as who }
+    {
+        OpenerCore {
+            alloc,
+            who,
+            image: None,
+            counts: LockCounts::new(),
+            work: Work::Ended,
+        }
+    }
+
     /// The opener dies, and its lock is given up. Where its next step would store a payload word, a death with `torn` leaves the
     /// bytes of that word on which the old one and the new one agree, and the others are those of `torn`, little-endian. It is
     /// handed back where it isn't its turn on the share.
     pub fn die<S: Share>(self, share: &mut S, torn: Option<u32>) -> Result<(), OpenerCore>
         requires { Tied self (S.state share.old) }
         ensures dead { OnOk result (DiesAt self.work torn (S.state share.old) (S.state share.new)) }
+        ensures ended { OnOk result (DeathEnds self (S.state share.new)) }
+        ensures settles { OnOk result (DeathSettles self (S.state share.old) (S.state share.new)) }
         ensures back { IfErr result (λ o. o ≡ self) }
         ensures turn { OnErr result (IsTurnedAway (S.state share.old) (S.state share.new)) }
         ensures tied { IfErr result (λ o. Tied o (S.state share.new)) }
@@ -28,7 +46,12 @@ impl OpenerCore {
             return Ok(());
         }
         match share.die(self.torn_store(torn)) {
-            Ok(()) | Err(ShareStop::Failed) => {
+            Ok(()) => {
+                mem::drop(self);
+                Ok(())
+            }
+            // (a share that fails counts as its opener's death)
+            Err(ShareStop::Failed) => {
                 mem::drop(self);
                 Ok(())
             }

@@ -8,7 +8,7 @@ ghost use Rattle.loader.specs.Maps.{map_of_image};
 ghost use Rattle.opener.specs.Adds.{AddsTo};
 ghost use Rattle.opener.specs.Begins.{Begins, refusal};
 ghost use Rattle.opener.specs.Bound.{Falls, steps_left};
-ghost use Rattle.opener.specs.Deaths.{DiesAt};
+ghost use Rattle.opener.specs.Deaths.{DeathEnds, DeathSettles, DiesAt};
 ghost use Rattle.opener.specs.Ends.{OnImage};
 ghost use Rattle.opener.specs.Fresh.{CountedBy, CountsSoFar, LoadsFew, loads_counted};
 ghost use Rattle.opener.specs.Handled.{HandlerStays};
@@ -104,6 +104,8 @@ impl Opener {
     pub fn die<S: Share>(self, share: &mut S, torn: Option<u32>) -> Result<(), Opener>
         requires { Tied self.core (S.state share.old) }
         ensures dead { OnOk result (DiesAt self.core.work torn (S.state share.old) (S.state share.new)) }
+        ensures ended { OnOk result (DeathEnds self.core (S.state share.new)) }
+        ensures settles { OnOk result (DeathSettles self.core (S.state share.old) (S.state share.new)) }
         ensures back { IfErr result (λ o. o.core ≡ self.core) }
         ensures handler { IfErr result (λ o. o.handler ≡ self.handler) }
         ensures turn { OnErr result (IsTurnedAway (S.state share.old) (S.state share.new)) }
