@@ -102,10 +102,11 @@ ContinuesTo p (Runs running (stage.Load loading)) t = LoadFails p t
 ContinuesTo p (Runs running (stage.Unlock (end.Stop why))) t = why ≡ Memory
 ContinuesTo p new t = LoadHolds p t
 
--- What a step that goes on, or is answered, did at its stage: the second look follows the first, just the load is made for which the two
--- ask, a partial load holds or doesn't by what the region holds, a full one goes on only with an accepted record, the share is asked for exactly what a plan takes, and its events are made one by one.
+-- What a step that goes on, or is answered, did at its stage: the second look follows the first, which answers nothing, just the load is
+-- made for which the two ask, a partial load holds or doesn't by what the region holds, a full one goes on only with an accepted record, the share is asked for exactly what a plan takes, and its events are made one by one.
 abbrev pub ActsAt : Step → Stage → Option Image → Work → ShareState → ShareState → Type 0
 ActsAt step.Going stage.PeekChecksum image new s t = LooksNext new s t
+ActsAt (step.Answered a) stage.PeekChecksum image new s t = ⊥
 ActsAt step.Going (stage.PeekSequence peek) image new s t = Goes (loaded s) s t × FindsLoad (next_load new) peek image t
 ActsAt (step.Answered a) (stage.PeekSequence peek) image new s t = Goes (loaded s) s t × FindsLoad None peek image t
 ActsAt step.Going (stage.LockShared extent) image new s t = next_load new ≡ Some extent
