@@ -11,7 +11,7 @@ use Rattle.opener.specs.Bound.{Falls}
 use Rattle.opener.specs.Calls.{is_write}
 use Rattle.opener.specs.Ends.{Notices, ReadsBy, lock_by}
 use Rattle.opener.specs.Fresh.{CountedBy, is_fresh}
-use Rattle.opener.specs.Opener.{HasCause, IsAt, KeepsWork, OnAnswer, Tied, lock_in}
+use Rattle.opener.specs.Opener.{HasCause, IsAt, KeepsWork, OnAnswer, lock_in}
 use Rattle.opener.specs.State.{OpenerState}
 use Rattle.opener.specs.Steps.{ActsAt, IsPlaceOf, KeepsImage, OnRunning, peek_of}
 use Rattle.opener.specs.declared.calls.Step.{Step}
@@ -26,7 +26,6 @@ use Rattle.region_words.specs.Region.{Region, IsAccepted}
 use Rattle.region_words.specs.declared.event.Event.{Event}
 use Rattle.script_lang.specs.Kept.{FindWords, IsByLooks, IsByWords, IsRead, ReadsByWords, kept_after, kept_of, looked, looks_of}
 use Rattle.script_lang.specs.Parts.{Part, Running, going_on, past_of, running, stepped}
-use Rattle.script_lang.specs.Played.{reason_said}
 use Rattle.script_lang.specs.declared.line.Line.TheVariants.{Step as StepLine}
 use Rattle.script_lang.specs.declared.outcome.Outcome.{Outcome}
 use Rattle.script_lang.specs.declared.outcome.Outcome.TheVariants.{Answered, Blocked, Stopped}

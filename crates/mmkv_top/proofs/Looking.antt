@@ -13,10 +13,10 @@ use Rattle.opener.specs.Counted.{counted}
 use Rattle.opener.specs.Ends.{lock_by}
 use Rattle.opener.specs.Extents.{load_after}
 use Rattle.opener.specs.Fresh.{CountedBy, CountsLooks, answers_by_look, is_fresh}
-use Rattle.opener.specs.Opener.{HasCause, HasReason, HasStopped, IsAt, KeepsCall, KeepsWords, MatchesRegion, OnAnswer, RunsOn, Suits, Tied, lock_in, stop_found}
+use Rattle.opener.specs.Opener.{HasCause, HasReason, HasStopped, IsAt, KeepsCall, KeepsWords, MatchesRegion, OnAnswer, RunsOn, Suits, lock_in, stop_found}
 use Rattle.opener.specs.Plans.{CanWrite}
 use Rattle.opener.specs.State.{OpenerState}
-use Rattle.opener.specs.Steps.{ActsAt, FindsLoad, IsKeptBy, IsPlaceOf, IsStillKept, KeepsImage, LooksNext, kept_at, next_load, peek_of, still_looks}
+use Rattle.opener.specs.Steps.{ActsAt, IsKeptBy, IsPlaceOf, IsStillKept, KeepsImage, LooksNext, kept_at, next_load, peek_of, still_looks}
 use Rattle.opener.specs.declared.calls.Step.{Step}
 use Rattle.opener.specs.declared.calls.Step.TheVariants as step
 use Rattle.opener.specs.declared.calls.Stop.{Stop}
@@ -38,11 +38,11 @@ use Rattle.region_words.specs.declared.event.Event.{Event}
 use Rattle.region_words.specs.declared.stops.Peek.{Peek}
 use Rattle.script_lang.specs.Kept.{FindWords, IsByLooks, IsRead, looked}
 use Rattle.script_lang.specs.Parts.{Running, going_on, locks_among}
-use Rattle.script_lang.specs.Played.{IsAnsweredBy, reason_said}
+use Rattle.script_lang.specs.Played.{reason_said}
 use Rattle.script_lang.proofs.Looks.{both_stay, first_look, one_looked, second_look}
-use Rattle.mmkv_top.proofs.Stepping.{Moved, moved, no_events}
+use Rattle.mmkv_top.proofs.Stepping.{no_events}
 use Rattle.mmkv_top.specs.Looking.{AnswersRead, HasLooked, IsKnown, IsLooking, LookedOnce, LooksAt, NeverFind}
-use Rattle.mmkv_top.specs.Progress.{CameTo, FollowsWork, Stepped, seat_at}
+use Rattle.mmkv_top.specs.Progress.{CameTo}
 
 -- a read changes nothing
 no_write : (asked : Asked) → CanWrite asked → IsRead asked → ⊥

@@ -1,5 +1,5 @@
 -- What an opener keeps of the region, and what its call has looked at.
-use Rattle.std.specs.Prelude.{◌≡◌, ◌<◌, ◌≤◌, ◌⊎◌, ℕ, true, false, List, [], ◌∷◌, Option, Some, None, IsTrue, is_some, length, if◌then◌else◌, ⊤}
+use Rattle.std.specs.Prelude.{◌≡◌, ◌<◌, ◌⊎◌, true, false, List, [], ◌∷◌, Option, Some, None, IsTrue, is_some, length, if◌then◌else◌, ⊤}
 use Rattle.change_log.specs.declared.call.Answer.{Answer}
 use Rattle.loader.specs.declared.loaded.Image.{Image}
 use Rattle.opener.specs.Fresh.{is_fresh}

@@ -1,5 +1,5 @@
 -- Which words an opener keeps of the region, and which reads they answer. Parts and events stand with the latest first.
-use Rattle.std.specs.Prelude.{◌≡◌, ℕ, ◌<◌, Bool, false, List, [], ◌∷◌, ◌++◌, Option, Some, None, length, replicate, take, ◌==◌, ◌&&◌, if◌then◌else◌, ⊤}
+use Rattle.std.specs.Prelude.{◌≡◌, ℕ, ◌<◌, false, List, [], ◌∷◌, ◌++◌, Option, Some, None, length, replicate, take, ◌==◌, ◌&&◌, if◌then◌else◌, ⊤}
 use Rattle.change_log.specs.declared.call.Answer.{Answer}
 use Rattle.change_log.specs.declared.call.Call.{Call}
 use Rattle.lock_rules.specs.declared.table.LockKind.TheVariants.{Shared}
