@@ -22,7 +22,7 @@ use Rattle.region_words.specs.Share.{most_events}
 use Rattle.region_words.specs.declared.event.Event.{Event}
 use Rattle.script_lang.specs.Texts.{outcome_line}
 use Rattle.script_lang.specs.declared.line.Line.{Line}
-use Rattle.script_lang.specs.declared.line.Line.TheVariants.{Begin}
+use Rattle.script_lang.specs.declared.line.Line.TheVariants.{Begin, Step as StepLine}
 use Rattle.world.specs.World.{IsSound, Lives}
 use Rattle.world.specs.Moves.{BeginsCall, IsNotBegun}
 use Rattle.world.specs.declared.stops.WorldStop.{WorldStop}
@@ -39,7 +39,11 @@ use Rattle.mmkv_top.proofs.Answering.{earlier_now}
 use Rattle.mmkv_top.proofs.InTime.{begin_bounded, in_time}
 use Rattle.mmkv_top.proofs.NoPlaces.{opener_there, roomy}
 use Rattle.mmkv_top.proofs.Stepping.{follows_alive}
+use Rattle.script_lang.specs.Kept.{kept_of, looks_of}
 use Rattle.script_lang.proofs.Calls.{begin_asked, begin_other}
+use Rattle.script_lang.proofs.Looks.{looks_begin, looks_begin_other}
+use Rattle.mmkv_top.specs.Looking.{IsLooking}
+use Rattle.mmkv_top.proofs.LineLooks.{begun_looking}
 use Rattle.mmkv_top.proofs.Others.{opened_still, unopened_still}
 use Rattle.mmkv_top.proofs.Reasoning.{begin_found, begun_stopless, quiet_reasoned}
 use Rattle.mmkv_top.proofs.Marking.{begun_marked}
@@ -59,6 +63,7 @@ pub record Quiet (stock left left' : Stock) (start : Region) (parts : List Part)
   pub text : q.text ≡ p.text
   pub may : IsPartOf stock parts line [] None
   pub playable : IsPlayableLine line
+  pub stepless : (w n : ℕ) → line ≢ Some (StepLine w n)
   pub count : length q.world.openers ≡ length (strategies (record { line = line; made = []; outcome = None } ∷ parts))
   pub open_to : IsOpenTo (length (strategies (record { line = line; made = []; outcome = None } ∷ parts))) q.world.region
   pub drawn : (s : Strategy) → stocked left' s + drawn s (strategies (record { line = line; made = []; outcome = None } ∷ parts)) ≡ stocked stock s
@@ -85,6 +90,7 @@ quiet_taken stock left left' start parts line p q at k = (
     roomy = (at.roomy, subst (IsRoomy (length (strategies grown))) (k.past ∙ at.past) (roomy q.world k.sound (length (strategies grown)) k.open_to (sym k.count)));
     histories = (at.histories, history_of start grown q.world k.sound (k.start_is ∙ at.start_is) (k.past ∙ at.past) (k.answers ∙ at.answers ∙ same_answers));
     answered = subst (AreAnswered start (past_of parts)) same_answers at.answered;
+    by_words = (at.by_words, λ w n c step. absurd (k.stepless w n step));
     within = subst (AreEndedBy (length (changes_of (past_of parts)))) same_answers at.within;
     count = k.count;
     open_to = k.open_to;
@@ -124,11 +130,12 @@ nothing_taken stock left start parts p line none sound at =
       text = refl;
       may = (refl, refl);
       playable = tt;
+      stepless = λ w n e. absurd cc;
       count = at.count ∙ sym (ap length kept);
       open_to = subst (λ n. IsOpenTo n p.world.region) (sym (ap length kept)) at.open_to;
       drawn = drawn_still stock left start parts None refl at.drawn;
-      openers = λ i o is. opened_still start parts None (i + 1) refl refl o (at.openers i o is);
-      unopened = λ who is. unopened_still start parts None who refl refl (at.unopened who (subst (λ n. IsNobody n who) (ap length kept) is));
+      openers = λ i o is. opened_still start parts None (i + 1) refl refl refl o (at.openers i o is);
+      unopened = λ who is. unopened_still start parts None who refl refl refl (at.unopened who (subst (λ n. IsNobody n who) (ap length kept) is));
     }))
   where
     kept : strategies (record { line = None; made = []; outcome = None } ∷ parts) ≡ strategies parts
@@ -190,6 +197,10 @@ module _ (stock left : Stock) (start : Region) (parts : List Part) (p q : PlaySt
         marked = subst (HasMarked who step.Going next.work) (sym runs_now)
             (begun_marked who call now (length (changes_of p.world.region.past)) o next (record { call = call; now = now; past = past_of parts; since = [] }) b.begins refl refl refl);
         stored = subst (HasStored step.Going next.work) (sym runs_now) (begun_stored next.work (record { call = call; now = now; past = past_of parts; since = [] }) refl);
+        looking = λ distinct.
+            subst (IsLooking start (kept_of who parts) (looks_of who grown) next.image next.work) (sym runs_now)
+            (subst (λ l. IsLooking start (kept_of who parts) l next.image next.work (Some (record { call = call; now = now; past = past_of parts; since = [] }))) (sym (looks_begin who now call (past_of parts) (looks_of who parts)))
+            (begun_looking call now (length (changes_of p.world.region.past)) start (kept_of who parts) (looks_of who parts) (past_of parts) o next (running who parts) b.first (op.looking distinct) b.begins));
       }
 
   number : (who - 1) + 1 ≡ who
@@ -214,7 +225,8 @@ module _ (stock left : Stock) (start : Region) (parts : List Part) (p q : PlaySt
           subst (λ w. IsOpened start grown w x) own (subst (IsOpened start grown who) (sym x_is) opened_now)
       go (inr apart) =
           let n : who ≢ i + 1 = (λ e. apart.1 (omega (arith, e, number))) in
-          opened_still start parts (Some (Begin who now call)) (i + 1) (begin_other who (i + 1) now call (past_of parts) (running (i + 1) parts) n) (begin_asked who (i + 1) now call (asked_of (i + 1) parts) n) x
+          opened_still start parts (Some (Begin who now call)) (i + 1) (begin_other who (i + 1) now call (past_of parts) (running (i + 1) parts) n) (begin_asked who (i + 1) now call (asked_of (i + 1) parts) n)
+          (looks_begin_other who (i + 1) now call (past_of parts) (looks_of (i + 1) parts) n) x
           (at.openers i x (sym (set_elsewhere p.world.openers (who - 1) i next apart.1) ∙ there))
 
   below : who ≤ length (strategies parts)
@@ -227,7 +239,8 @@ module _ (stock left : Stock) (start : Region) (parts : List Part) (p q : PlaySt
 
   nobody_else : (v : ℕ) → IsNobody (length (strategies parts)) v → IsUnopened (record { line = Some (Begin who now call); made = []; outcome = None } ∷ parts) v
   nobody_else v is =
-      unopened_still start parts (Some (Begin who now call)) v (begin_other who v now call (past_of parts) (running v parts) (apart is)) (begin_asked who v now call (asked_of v parts) (apart is)) (at.unopened v is)
+      unopened_still start parts (Some (Begin who now call)) v (begin_other who v now call (past_of parts) (running v parts) (apart is)) (begin_asked who v now call (asked_of v parts) (apart is))
+      (looks_begin_other who v now call (past_of parts) (looks_of v parts) (apart is)) (at.unopened v is)
     where
       apart : IsNobody (length (strategies parts)) v → who ≢ v
       apart (inl none) e = absurd (omega (arith, b.lives.numbered, e, none))
@@ -245,6 +258,7 @@ module _ (stock left : Stock) (start : Region) (parts : List Part) (p q : PlaySt
         text = text;
         may = (record { alive = lives_in parts p.world.openers who o at.count at.live b.lives; idle = free.0; asks = subst (λ h. call_refusal call h ≡ None) op.holds free.1 }, (refl, refl));
         playable = tt;
+        stepless = λ w n e. absurd cc;
         count = count_now ∙ sym (ap length kept);
         open_to = subst (λ n. IsOpenTo n q.world.region) (sym (ap length kept)) (subst (λ (l : Local). IsOpenTo (length (strategies parts)) l) (sym b.region) at.open_to);
         drawn = drawn_still stock left start parts (Some (Begin who now call)) refl at.drawn;

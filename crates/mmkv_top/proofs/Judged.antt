@@ -23,4 +23,5 @@ journal_of stock left start parts p sound at =
       roomy = at.roomy;
       answers = at.answered;
       histories = at.histories;
+      by_words = at.by_words;
     }

@@ -4,6 +4,8 @@ mod Storing
 mod NoPlaces
 mod Seeing
 mod Stepping
+mod Looking
+mod LineLooks
 mod Answering
 mod InTime
 mod HandedOn

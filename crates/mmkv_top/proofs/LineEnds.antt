@@ -122,9 +122,10 @@ listed_answers who (step.Blocked holder) outcome at = ap (λ o. answers_in (list
 listed_answers who (step.Answered a) outcome at = ap (λ o. answers_in (listed o)) at
 listed_answers who (step.Stopped why) outcome at = ap (λ o. answers_in (listed o)) at.1
 
--- the answer of a line is that of its opener
+-- the answer of a line, or its stop, is that of its opener
 abbrev pub IsOwn : ℕ → Option Outcome → Type 0
 IsOwn who (Some (Answered a)) = a.who ≡ who
+IsOwn who (Some (Stopped w why)) = w ≡ who
 IsOwn who _ = ⊤
 
 pub own_outcome : (who : ℕ) (past made : List Event) (r : Option Running) (outcome : Option Outcome) → EndsLine who past made r outcome → IsOwn who outcome
@@ -132,7 +133,7 @@ own_outcome who past made None outcome ends = subst (IsOwn who) (sym ends) tt
 own_outcome who past made (Some r) None ends = tt
 own_outcome who past made (Some r) (Some (Answered a)) ends = ends.by
 own_outcome who past made (Some r) (Some (Blocked w holder)) ends = tt
-own_outcome who past made (Some r) (Some (Stopped w why)) ends = tt
+own_outcome who past made (Some r) (Some (Stopped w why)) ends = ends.0
 
 pub is_step_line : (who : ℕ) (past made : List Event) (count : ℕ) (r : Option Running) (outcome : Option Outcome) → length made ≤ count → AreSteps who made → (r ≡ None → made ≡ []) →
     EndsLine who past made r outcome → MarksLine who made r outcome → IsStepLine past who count r made outcome

@@ -34,6 +34,7 @@ use Rattle.script_lang.specs.Played.{IsTooFull, MetNoPlace, Stock, drawn, is_sam
 use Rattle.mmkv_top.specs.Progress.{AreEarlier, FollowsWork, HasHalted, HasMarked, HasStored, IsAt, IsNobody, IsOpenTo, IsOpened, IsUnopened, TakesOne}
 use Rattle.mmkv_top.proofs.Answering.{nothing_answered}
 use Rattle.mmkv_top.proofs.NoPlaces.{Reserver, no_place, opener_there, writing}
+use Rattle.mmkv_top.specs.Looking.{IsKnown}
 use Rattle.mmkv_top.proofs.Others.{opened_still, unopened_still}
 use Rattle.mmkv_top.proofs.Beginning.{quiet_taken}
 
@@ -145,7 +146,7 @@ module _ (stock left left' : Stock) (start : Region) (parts : List Part) (p : Pl
     fresh = at.unopened (length (strategies parts) + 1) (inr (omega arith))
 
     still_fresh : IsUnopened (record { line = Some (Open strategy); made = []; outcome = None } ∷ parts) (length (strategies parts) + 1)
-    still_fresh = unopened_still start parts (Some (Open strategy)) (length (strategies parts) + 1) refl refl fresh
+    still_fresh = unopened_still start parts (Some (Open strategy)) (length (strategies parts) + 1) refl refl refl fresh
 
     opened_now : IsOpened start (record { line = Some (Open strategy); made = []; outcome = None } ∷ parts) (length (strategies parts) + 1) (new_opener who)
     opened_now =
@@ -159,13 +160,14 @@ module _ (stock left left' : Stock) (start : Region) (parts : List Part) (p : Pl
           unfull = λ e. absurd cc;
           stored = subst (HasStored step.Going Idle) (sym still_fresh.idle) tt;
           marked = subst (HasMarked (length (strategies parts) + 1) step.Going Idle) (sym still_fresh.idle) tt;
+          looking = λ apart. subst (λ k. IsKnown start k None) (sym still_fresh.keeps) refl;
         }
 
     each_opened : (i : ℕ) (x : OpenerState) → slice_get q.world.openers i ≡ Some x → IsOpened start (record { line = Some (Open strategy); made = []; outcome = None } ∷ parts) (i + 1) x
     each_opened i x is = go (pushed_is p.world.openers (new_opener who) i x (subst (λ l. slice_get l i ≡ Some x) opens.openers is))
       where
         go : (slice_get p.world.openers i ≡ Some x) ⊎ ((i ≡ length p.world.openers) × (x ≡ new_opener who)) → IsOpened start grown (i + 1) x
-        go (inl was) = opened_still start parts (Some (Open strategy)) (i + 1) refl refl x (at.openers i x was)
+        go (inl was) = opened_still start parts (Some (Open strategy)) (i + 1) refl refl refl x (at.openers i x was)
         go (inr (last, new)) =
             let place : length (strategies parts) + 1 ≡ i + 1 = omega (arith, last, at.count) in
             subst (λ w. IsOpened start grown w x) place (subst (IsOpened start grown (length (strategies parts) + 1)) (sym new) opened_now)
@@ -214,11 +216,12 @@ module _ (stock left left' : Stock) (start : Region) (parts : List Part) (p : Pl
           text = text;
           may = ((omega (arith, opens.least, at.count), enough), (refl, refl));
           playable = tt;
+          stepless = λ w n e. absurd cc;
           count = count_now ∙ sym more;
           open_to = subst (λ k. IsOpenTo k q.world.region) (sym more) open_now;
           drawn = λ s. omega (arith, both_more strategy s (strategies parts), drew s, at.drawn s);
           openers = each_opened;
-          unopened = λ v is. unopened_still start parts (Some (Open strategy)) v refl refl (at.unopened v (nobody v (subst (λ k. IsNobody k v) more is)));
+          unopened = λ v is. unopened_still start parts (Some (Open strategy)) v refl refl refl (at.unopened v (nobody v (subst (λ k. IsNobody k v) more is)));
         })
       where
         nobody : (v : ℕ) → IsNobody (length (strategies parts) + 1) v → IsNobody (length (strategies parts)) v
@@ -256,11 +259,12 @@ no_lines stock w sound none listed =
       reasoned = tt;
       roomy = tt;
       histories = tt;
+      by_words = tt;
       answered = nothing_answered w.region.start;
       within = λ k d lt. absurd (omega (arith, lt));
       count = ap length none;
       open_to = none_in w sound none;
       drawn = λ s. omega arith;
       openers = λ i o is. let at : slice_get [] i ≡ Some o = subst (λ l. slice_get l i ≡ Some o) none is in absurd cc;
-      unopened = λ who is. record { idle = refl; held = refl };
+      unopened = λ who is. record { idle = refl; held = refl; keeps = refl };
     }

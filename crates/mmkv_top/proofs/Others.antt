@@ -1,15 +1,18 @@
 -- What an opener has in hand while a line is another's, or names nothing of it.
 use Rattle.std.proofs.Common.{◌≡◌, ◌≢◌, ℕ, cond, List, [], ◌∷◌, ◌++◌, refl, sym, ap, ◌∙◌, subst, append-nil, ne_eqb}
-use Rattle.std.specs.Prelude.{Option, Some, None}
+use Rattle.std.specs.Prelude.{Option, Some, None, ◌&&◌, if◌then◌else◌}
 use Rattle.change_log.specs.declared.call.Answer.{Answer}
 use Rattle.opener.specs.Calls.{holds_after}
+use Rattle.opener.specs.Fresh.{is_fresh}
 use Rattle.opener.specs.State.{OpenerState}
 use Rattle.opener.specs.declared.calls.Step.TheVariants as step
 use Rattle.region_words.specs.Lawful.{Lawful}
 use Rattle.region_words.specs.Past.{AreSteps, region_after}
 use Rattle.region_words.specs.Region.{Region, file_size}
 use Rattle.region_words.specs.declared.event.Event.{Event}
+use Rattle.region_words.proofs.ReadLaws.{apart_front}
 use Rattle.region_words.proofs.StaysFirm.{file_grows}
+use Rattle.script_lang.specs.Kept.{kept_after, kept_of, looks_after, looks_of}
 use Rattle.script_lang.specs.declared.line.Line.{Line}
 use Rattle.script_lang.specs.declared.line.Line.TheVariants.{Step as StepLine}
 use Rattle.script_lang.specs.declared.outcome.Outcome.{Outcome}
@@ -20,6 +23,8 @@ use Rattle.mmkv_top.proofs.Answering.{earlier_other}
 use Rattle.mmkv_top.proofs.InTime.{bounded_later}
 use Rattle.mmkv_top.proofs.LineEnds.{IsOwn, answers_join}
 use Rattle.script_lang.proofs.Calls.{asked_other, going_none, others_take_none, running_other}
+use Rattle.script_lang.proofs.Looks.{looks_other}
+use Rattle.mmkv_top.specs.Looking.{IsLooking}
 use Rattle.mmkv_top.proofs.Reasoning.{found_later}
 use Rattle.mmkv_top.proofs.Seeing.{saw_still}
 
@@ -28,6 +33,13 @@ holds_other maker who held None n own = refl
 holds_other maker who held (Some (Answered a)) n own = ap (λ b. cond b (holds_after a.call held) held) (ne_eqb a.who who (λ same. n (sym own ∙ same)))
 holds_other maker who held (Some (Blocked w holder)) n own = refl
 holds_other maker who held (Some (Stopped w why)) n own = refl
+
+-- another's outcome leaves the words that are kept
+keeps_other : (maker who : ℕ) (past : List Event) (kept : Option (List Event)) (outcome : Option Outcome) → maker ≢ who → IsOwn maker outcome → kept_after who past outcome kept ≡ kept
+keeps_other maker who past kept None n own = refl
+keeps_other maker who past kept (Some (Answered a)) n own = ap (λ b. if b && is_fresh a then Some past else kept) (ne_eqb a.who who (λ same. n (sym own ∙ same)))
+keeps_other maker who past kept (Some (Blocked w holder)) n own = refl
+keeps_other maker who past kept (Some (Stopped w why)) n own = ap (λ b. if b then None else kept) (ne_eqb w who (λ same. n (sym own ∙ same)))
 
 earlier_still : (maker who : ℕ) (r : Option Running) (answers : List Answer) (outcome : Option Outcome) → maker ≢ who → IsOwn maker outcome → AreEarlier who r answers →
     AreEarlier who r (answers ++ answers_in (listed outcome))
@@ -42,7 +54,7 @@ module _ (start : Region) (parts : List Part) (maker who count : ℕ) (made : Li
   grown = record { line = Some (StepLine maker count); made = made; outcome = outcome } ∷ parts
 
   pub unopened_other : IsUnopened parts who → IsUnopened (record { line = Some (StepLine maker count); made = made; outcome = outcome } ∷ parts) who
-  unopened_other un = record { idle = running_other maker who count parts made outcome n steps ∙ un.idle; held = holds_other maker who (holds_of who parts) outcome n own ∙ un.held }
+  unopened_other un = record { idle = running_other maker who count parts made outcome n steps ∙ un.idle; held = holds_other maker who (holds_of who parts) outcome n own ∙ un.held; keeps = keeps_other maker who (made ++ past_of parts) (kept_of who parts) outcome n own ∙ un.keeps }
 
   pub opened_other : (o : OpenerState) → Lawful start (made ++ past_of parts) → IsOpened start parts who o → IsOpened start (record { line = Some (StepLine maker count); made = made; outcome = outcome } ∷ parts) who o
   opened_other o lawful op =
@@ -60,11 +72,16 @@ module _ (start : Region) (parts : List Part) (maker who count : ℕ) (made : Li
         saw = saw_still o.work start made (past_of parts) op.saw;
         unfull = op.unfull;
         stored = subst (HasStored step.Going o.work) (sym same) op.stored;
+        looking = λ apart.
+            subst (IsLooking start (kept_of who grown) (looks_of who grown) o.image o.work) (sym same)
+            (subst (λ k. IsLooking start k (looks_of who grown) o.image o.work (running who parts)) (sym (keeps_other maker who (made ++ past_of parts) (kept_of who parts) outcome n own))
+            (subst (λ l. IsLooking start (kept_of who parts) l o.image o.work (running who parts)) (sym (looks_other maker who count (past_of parts) (looks_of who parts) n))
+            (op.looking (apart_front start made (past_of parts) apart))));
       }
 
 -- a line that makes nothing, and names nothing of this opener
 module _ (start : Region) (parts : List Part) (line : Option Line) (who : ℕ) (calls : running_after line None who (past_of parts) (running who parts) ≡ running who parts)
-    (asks : asked_after line None who (asked_of who parts) ≡ asked_of who parts) where
+    (asks : asked_after line None who (asked_of who parts) ≡ asked_of who parts) (looks : looks_after line who (past_of parts) (looks_of who parts) ≡ looks_of who parts) where
   abbrev quiet : List Part
   quiet = record { line = line; made = []; outcome = None } ∷ parts
 
@@ -72,7 +89,7 @@ module _ (start : Region) (parts : List Part) (line : Option Line) (who : ℕ) (
   same = ap (running_after line None who (past_of parts)) (going_none (running who parts)) ∙ calls
 
   pub unopened_still : IsUnopened parts who → IsUnopened (record { line = line; made = []; outcome = None } ∷ parts) who
-  unopened_still un = record { idle = same ∙ un.idle; held = un.held }
+  unopened_still un = record { idle = same ∙ un.idle; held = un.held; keeps = un.keeps }
 
   pub opened_still : (o : OpenerState) → IsOpened start parts who o → IsOpened start (record { line = line; made = []; outcome = None } ∷ parts) who o
   opened_still o op =
@@ -87,4 +104,7 @@ module _ (start : Region) (parts : List Part) (line : Option Line) (who : ℕ) (
         saw = op.saw;
         unfull = op.unfull;
         stored = subst (HasStored step.Going o.work) (sym same) op.stored;
+        looking = λ apart.
+            subst (IsLooking start (kept_of who parts) (looks_of who quiet) o.image o.work) (sym same)
+            (subst (λ l. IsLooking start (kept_of who parts) l o.image o.work (running who parts)) (sym looks) (op.looking apart));
       }

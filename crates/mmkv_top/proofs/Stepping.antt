@@ -265,11 +265,11 @@ idle_makes_none s t o o' Idle result follows keeps cause =
 idle_makes_none s t o o' Ended result follows keeps cause = absurd follows
 idle_makes_none s t o o' (Runs c at) result follows keeps cause = absurd follows
 
-no_events : (xs ys : List Event) → xs ++ ys ≡ ys → xs ≡ []
+pub no_events : (xs ys : List Event) → xs ++ ys ≡ ys → xs ≡ []
 no_events [] ys h = refl
 no_events (x ∷ xs) ys h = absurd (omega (arith, ap length h, length-append xs ys))
 
-going_twice : (own made : List Event) (before : Option Running) → option_map (going_on own) (option_map (going_on made) before) ≡ option_map (going_on (own ++ made)) before
+pub going_twice : (own made : List Event) (before : Option Running) → option_map (going_on own) (option_map (going_on made) before) ≡ option_map (going_on (own ++ made)) before
 going_twice own made None = refl
 going_twice own made (Some r) = ap (λ x. Some (record r { since = x })) (sym (append_assoc own made r.since))
 

@@ -12,6 +12,7 @@ use Rattle.opener.specs.State.{OpenerState}
 use Rattle.opener.specs.declared.calls.Step.TheVariants as step
 use Rattle.opener.specs.declared.calls.Stop.{Stop}
 use Rattle.opener.specs.declared.calls.Stop.TheVariants as stop
+use Rattle.region_words.specs.Apart.{Apart}
 use Rattle.region_words.specs.Lawful.{Lawful}
 use Rattle.region_words.specs.Past.{NoneDies, changes_of, has_died, region_after}
 use Rattle.region_words.specs.Region.{Region, file_size}
@@ -45,7 +46,11 @@ use Rattle.mmkv_top.proofs.Histories.{history_of}
 use Rattle.mmkv_top.proofs.InTime.{in_time, line_bounded}
 use Rattle.mmkv_top.proofs.LineEnds.{LineEnds, Outcomes, answers_join, is_step_line, line_ends, listed_answers, outcome_is, own_outcome, said_stopped}
 use Rattle.mmkv_top.proofs.NoPlaces.{opener_there, roomy}
-use Rattle.script_lang.proofs.Calls.{going_none, running_own}
+use Rattle.script_lang.specs.Kept.{kept_after, kept_of, looked, looks_of}
+use Rattle.script_lang.proofs.Calls.{going_none, running_own, still_running}
+use Rattle.script_lang.proofs.Looks.{looks_own}
+use Rattle.mmkv_top.specs.Looking.{HasLooked, IsLooking}
+use Rattle.mmkv_top.proofs.LineLooks.{line_by_words, line_looking}
 use Rattle.mmkv_top.proofs.Others.{opened_other, unopened_other}
 use Rattle.mmkv_top.proofs.Reasoning.{is_reasoned}
 use Rattle.mmkv_top.proofs.Storing.{line_stored}
@@ -143,6 +148,10 @@ module _ (stock left : Stock) (start : Region) (parts : List Part) (p q : PlaySt
   came : CameTo who all (holds_of who parts) (option_map (going_on walks.made) (running who parts)) walks.came walks.next
   came = subst (λ x. CameTo who x (holds_of who parts) (option_map (going_on walks.made) (running who parts)) walks.came walks.next) st.past_is st.came
 
+  looks_now : Apart start (walks.made ++ past_of parts) →
+      HasLooked start (kept_of who parts) (looks_of who parts) (looked (looks_of who parts) count (past_of parts)) walks.came walks.next (option_map (going_on walks.made) (running who parts)) (walks.made ++ past_of parts)
+  looks_now = walks.looking o lives (kept_of who parts) (looks_of who parts) op.looking
+
   module _ (more : List ℕ) (notes : IsTextOf who q.world.answers said more) (text : q.text ≡ p.text ++ more) where
     abbrev ended : Outcomes who walks.came more
     ended = outcome_is who p.world.answers q.world.answers said walks.came more walks.leaves.answers walks.is notes
@@ -174,6 +183,12 @@ module _ (stock left : Stock) (start : Region) (parts : List Part) (p q : PlaySt
               (line_marked who all (holds_of who parts) (option_map (going_on walks.made) (running who parts)) walks.came walks.next ended.outcome came ended.at st.marked);
           stored = subst (HasStored step.Going walks.next.work) (sym same)
               (line_stored who all (holds_of who parts) (option_map (going_on walks.made) (running who parts)) walks.came walks.next ended.outcome came ended.at st.stored);
+          looking = λ apart.
+              subst (IsLooking start (kept_after who all ended.outcome (kept_of who parts)) (looks_of who grown) walks.next.image walks.next.work) (sym same)
+              (subst (λ l. IsLooking start (kept_after who all ended.outcome (kept_of who parts)) l walks.next.image walks.next.work (still_running ended.outcome walks.made (running who parts)))
+              (sym (looks_own who count (past_of parts) (looks_of who parts)))
+              (line_looking who (holds_of who parts) start all (kept_of who parts) (looks_of who parts) (looked (looks_of who parts) count (past_of parts)) (option_map (going_on walks.made) (running who parts)) walks.came walks.next
+              ended.outcome came ended.at (looks_now apart)));
         }
 
     each_opened : (i : ℕ) (x : OpenerState) → slice_get q.world.openers i ≡ Some x → IsOpened start (record { line = Some (StepLine who count); made = walks.made; outcome = ended.outcome } ∷ parts) (i + 1) x
@@ -250,6 +265,7 @@ module _ (stock left : Stock) (start : Region) (parts : List Part) (p q : PlaySt
           subst (λ n. IsRoomy n all) (sym (ap length same_strategies)) (subst (IsRoomy (length (strategies parts))) st.past_is (roomy q.world sound (length (strategies parts)) st.open_to (sym count_now))),
         );
         histories = (at.histories, history_of start grown q.world sound st.start_is st.past_is answers_now);
+        by_words = (at.by_words, line_by_words who count (holds_of who parts) start parts walks.made walks.came walks.next ended.outcome came ended.at looks_now);
         answered = subst (AreAnswered start all) joined ends.answered;
         within = subst (AreEndedBy (length (changes_of all))) joined ends.within;
         count = count_now ∙ sym (ap length same_strategies);

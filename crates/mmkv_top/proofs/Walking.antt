@@ -1,7 +1,7 @@
 -- A line goes on by one step of its opener in the world.
-use Rattle.std.proofs.Common.{◌≡◌, ◌≢◌, ℕ, zero, suc, ◌+◌, ◌-◌, ◌<◌, ◌≤◌, List, [], ◌∷◌, ◌++◌, length, set, refl, sym, ap, ◌∙◌, arith, subst, append-nil, length-append}
+use Rattle.std.proofs.Common.{◌≡◌, ◌≢◌, ℕ, zero, suc, ◌+◌, ◌-◌, ◌<◌, ◌≤◌, List, [], ◌∷◌, ◌++◌, length, set, refl, sym, ap, ◌∙◌, arith, subst, append-nil, append_assoc, length-append}
 use Rattle.std.proofs.lemmas.List.{length-set}
-use Rattle.std.specs.Prelude.{Option, Some, slice_get}
+use Rattle.std.specs.Prelude.{Option, Some, option_map, slice_get}
 use Rattle.opener.specs.Opener.{stop_found}
 use Rattle.opener.specs.Settles.{answers_by}
 use Rattle.opener.specs.State.{OpenerState}
@@ -9,17 +9,25 @@ use Rattle.opener.specs.declared.calls.Step.{Step}
 use Rattle.opener.specs.declared.calls.Step.TheVariants as step
 use Rattle.opener.specs.declared.calls.Stop.TheVariants as stop
 use Rattle.opener.specs.Opener.{Tied}
+use Rattle.region_words.specs.Apart.{Apart}
 use Rattle.region_words.specs.Region.{Region}
+use Rattle.region_words.specs.Share.{made_by}
+use Rattle.region_words.proofs.ReadLaws.{apart_front}
 use Rattle.region_words.specs.declared.event.Event.{Event}
 use Rattle.world.specs.World.{IsSound, Lives, WorldState, share_of}
 use Rattle.world.specs.Moves.{IsSaid, Moves, Steps}
 use Rattle.world.specs.declared.moves.Moved.{Moved}
 use Rattle.world.specs.declared.moves.Moved.TheVariants as moved
 use Rattle.world.proofs.Numbered.{set_there}
-use Rattle.script_lang.specs.Parts.{Running}
+use Rattle.script_lang.specs.Kept.{looked}
+use Rattle.script_lang.specs.Parts.{Running, going_on}
+use Rattle.script_lang.proofs.Calls.{going_none}
+use Rattle.mmkv_top.specs.Looking.{HasLooked, IsLooking}
 use Rattle.mmkv_top.specs.Progress.{IsPlaced, MetFull, Stepped, Walks, seat_at}
 use Rattle.mmkv_top.proofs.LineEnds.{said_going}
-use Rattle.mmkv_top.proofs.Stepping.{at_most, follows_alive, full_met, lives_on, one_more}
+use Rattle.mmkv_top.proofs.Looking.{lasting_looks}
+use Rattle.mmkv_top.proofs.LineLooks.{step_looks}
+use Rattle.mmkv_top.proofs.Stepping.{at_most, follows_alive, full_met, lives_on, moved, one_more}
 
 -- an element that is put where it stands, and one that is put over another
 set_same : {A : Type 0} (xs : List A) (i : ℕ) (x : A) → slice_get xs i ≡ Some x → set xs i x ≡ xs
@@ -62,6 +70,10 @@ walks_begin who opened start past held before o w lives first =
       is = refl;
       stepped = first;
       leaves = record { openers = sym (set_same w.openers (who - 1) o lives.there); answers = sym (append-nil w.answers) };
+      looking = λ x there kept looks was apart.
+          let same : x ≡ o = let both = sym there.there ∙ lives.there in cc in
+          subst (IsLooking start kept (looked looks 0 past) o.image o.work) (sym (going_none before))
+          (lasting_looks start kept looks past o.image o.work before (subst (λ (y : OpenerState). IsLooking start kept looks y.image y.work before) same (was apart)));
     }
 
 module _ (who opened : ℕ) (start : Region) (past : List Event) (held : ℕ) (before : Option Running) (first : OpenerState) (n : ℕ) (begun old new : WorldState) (said : Moved)
@@ -114,6 +126,11 @@ module _ (who opened : ℕ) (start : Region) (past : List Event) (held : ℕ) (b
   answers_were : old.answers ≡ begun.answers
   answers_were = w.leaves.answers ∙ ap (λ c. begun.answers ++ answers_by c) goes ∙ append-nil begun.answers
 
+  looking_so_far : (x : OpenerState) → Lives begun.openers who x → (kept : Option (List Event)) (looks : List (List Event)) → (Apart start past → IsLooking start kept looks x.image x.work before) → Apart start (w.made ++ past) →
+      IsLooking start kept (looked looks n past) w.next.image w.next.work (option_map (going_on w.made) before)
+  looking_so_far x lives kept looks was apart =
+      subst (λ c. HasLooked start kept looks (looked looks n past) c w.next (option_map (going_on w.made) before) (w.made ++ past)) goes (w.looking x lives kept looks was apart)
+
   -- one step more on the way
   pub walks_on : (count : ℕ) → n + 1 ≤ count → (said ≡ moved.Going → n + 1 ≡ count) → (said ≡ moved.Going → (o : OpenerState) → Lives new.openers who o → stop_found o.work ≢ Some stop.JournalFull) →
       Walks who opened start past held before first.work count said begun new
@@ -131,6 +148,15 @@ module _ (who opened : ℕ) (start : Region) (past : List Event) (held : ℕ) (b
           openers = steps.openers ∙ ap (λ l. set l (who - 1) made.next) w.leaves.openers ∙ set_twice begun.openers (who - 1) w.next made.next;
           answers = steps.answers ∙ ap (λ l. l ++ answers_by made.came) answers_were;
         };
+        looking = λ x lives kept looks was apart.
+            let m = moved (seat_at who old.region) (seat_at who new.region) steps.makes in
+            let all : Apart start (made_by who m.own ++ (w.made ++ past)) = subst (Apart start) (append_assoc (made_by who m.own) w.made past) apart in
+            let before_now = looking_so_far x lives kept looks was (apart_front start (made_by who m.own) (w.made ++ past) all) in
+            let here : Apart new.region.start new.region.past = subst (λ r. Apart r new.region.past) (sym next.start_is) (subst (Apart start) (sym next.past_is) apart) in
+            subst (HasLooked start kept looks (looked looks count past) made.came made.next (option_map (going_on (made_by who m.own ++ w.made)) before)) next.past_is
+            (step_looks who held start kept looks past w.made (made_by who m.own) n count below (seat_at who old.region) (seat_at who new.region) w.next made.next made.came
+            (λ going. last (going_said (length old.answers) made.came said made.is going)) next.start_is st.past_is m.past there.accepted here w.next.work before st.came.0 tied.at tied.holds tied'.at tied'.holds before_now
+            steps.call steps.cause steps.acts steps.place steps.image steps.counts steps.falls next.came);
       }
 
   -- a step that has found no places

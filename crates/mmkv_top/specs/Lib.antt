@@ -3,6 +3,7 @@ pub mod Ending
 pub mod Play
 pub mod Halting
 pub mod State
+pub mod Looking
 pub mod Progress
 pub mod Due
 pub mod Lent

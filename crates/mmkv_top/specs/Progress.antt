@@ -33,7 +33,7 @@ use Rattle.script_lang.specs.declared.line.Line.{Line}
 use Rattle.script_lang.specs.declared.outcome.Outcome.{Outcome}
 use Rattle.script_lang.specs.declared.outcome.Outcome.TheVariants.{Answered, Blocked, Stopped}
 use Rattle.script_lang.specs.declared.outcome.Reason.{Reason}
-use Rattle.world.specs.World.{WorldState}
+use Rattle.world.specs.World.{Lives, WorldState}
 use Rattle.world.specs.Moves.{IsSaid}
 use Rattle.world.specs.declared.moves.Moved.{Moved}
 use Rattle.world.specs.declared.moves.Moved.TheVariants as moved
@@ -45,8 +45,10 @@ use Rattle.mmkv_top.specs.Ending.{ending}
 use Rattle.mmkv_top.specs.declared.ending.Ending.{Ending}
 use Rattle.script_lang.specs.Parts.{Part, lines_of, past_of, outcomes_of, answers_in, strategies, holds_of, asked_of, locks_among, stores_among, Running, running, going_on}
 use Rattle.script_lang.specs.Played.{Stock, stocked, drawn, AreHeld, ArePlayed, AreReasoned, AreRoomy, MeetsFullJournal, MeetsNoImage, AsksFor, IsTooFull, IsAnsweredBy, IsBlockedBy, WasRefused, reason_said}
+use Rattle.script_lang.specs.Kept.{ReadByWords, kept_of, looked, looks_of}
 use Rattle.script_lang.specs.Script.{IsWithin, AreLines}
 use Rattle.script_lang.specs.Journal.{AreAnswered, AreHistories, AreInTime, ArePlayable, CanTake, IsFirstRefused, IsHalted, IsRefusedIn}
+use Rattle.mmkv_top.specs.Looking.{HasLooked, IsLooking}
 use Rattle.mmkv_top.specs.Play.{not_yet}
 
 -- the opener runs this call
@@ -192,6 +194,9 @@ pub record Walks (who opened : ℕ) (start : Region) (past : List Event) (held :
   pub is : IsSaid (length old.answers) came said
   pub stepped : Stepped who opened start past held before first count came made next (seat_at who new.region)
   pub leaves : Leaves who next came old new
+  pub looking : (o : OpenerState) → Lives old.openers who o → (kept : Option (List Event)) (looks : List (List Event)) →
+      (Apart start past → IsLooking start kept looks o.image o.work before) → Apart start (made ++ past) →
+      HasLooked start kept looks (looked looks count past) came next (option_map (going_on made) before) (made ++ past)
 
 -- the outcome of a line whose last step of an opener came to this, if it has one
 abbrev pub IsOutcomeAt : ℕ → Step → Option Outcome → Type 0
@@ -257,6 +262,7 @@ pub record IsOpened (start : Region) (parts : List Part) (who : ℕ) (o : Opener
   pub unfull : IsUnfull o.work
   pub stored : HasStored step.Going o.work (running who parts)
   pub marked : HasMarked who step.Going o.work (running who parts)
+  pub looking : Apart start (past_of parts) → IsLooking start (kept_of who parts) (looks_of who parts) o.image o.work (running who parts)
 
 -- so many openers were opened, and none has this number
 abbrev pub IsNobody : ℕ → ℕ → Type 0
@@ -266,6 +272,7 @@ IsNobody opened who = (who ≡ 0) ⊎ (opened < who)
 pub record IsUnopened (parts : List Part) (who : ℕ) : Type 0 where
   pub idle : running who parts ≡ None
   pub held : holds_of who parts ≡ 0
+  pub keeps : kept_of who parts ≡ None
 
 -- these parts were played, and so much is left of the stock
 pub record IsAt (stock left : Stock) (start : Region) (parts : List Part) (p : PlayState) : Type 0 where
@@ -282,6 +289,7 @@ pub record IsAt (stock left : Stock) (start : Region) (parts : List Part) (p : P
   pub held : AreHeld parts
   pub roomy : AreRoomy parts
   pub histories : AreHistories start parts
+  pub by_words : ReadByWords start parts
   pub answered : AreAnswered start (past_of parts) (answers_in (outcomes_of parts))
   pub within : AreEndedBy (length (changes_of (past_of parts))) (answers_in (outcomes_of parts))
   pub count : length p.world.openers ≡ length (strategies parts)

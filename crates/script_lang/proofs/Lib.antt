@@ -10,3 +10,4 @@ pub mod Meaning
 pub mod OneMeaning
 pub mod Counting
 pub mod Calls
+pub mod Looks

@@ -14,6 +14,7 @@ use Rattle.script_lang.specs.Lines.{IsLine}
 use Rattle.script_lang.specs.Script.{AreLines, IsWithin}
 use Rattle.script_lang.specs.Parts.{Part, lines_of, past_of, outcomes_of, answers_in, Running, running, asked_of}
 use Rattle.script_lang.specs.Played.{Stock, MayCome, AreHeld, ArePlayed, AreReasoned, AreRoomy}
+use Rattle.script_lang.specs.Kept.{ReadByWords}
 
 -- so far no opener dies
 abbrev pub IsPlayable : Line → Type 0
@@ -65,8 +66,8 @@ abbrev pub AreHistories : Region → List Part → Type 0
 AreHistories start [] = ⊤
 AreHistories start (p ∷ parts) = AreHistories start parts × IsHistory start (p ∷ parts)
 
--- a journal of these parts, which is lawful and in which the answers stand; after each line changes and answers are one legal history, and
--- through each line the holds are kept
+-- A journal of these parts, which is lawful and in which the answers stand. After each line changes and answers are one legal history,
+-- through each line the holds are kept, and just the reads that find their openers' words need no load of the region.
 pub record IsJournal (stock : Stock) (start : Region) (parts : List Part) : Type 0 where
   pub each : ArePlayed stock parts
   pub playable : ArePlayable parts
@@ -77,6 +78,7 @@ pub record IsJournal (stock : Stock) (start : Region) (parts : List Part) : Type
   pub roomy : AreRoomy parts
   pub answers : AreAnswered start (past_of parts) (answers_in (outcomes_of parts))
   pub histories : AreHistories start parts
+  pub by_words : ReadByWords start parts
 
 -- the lines before the one of this number are played; these texts are left
 pub record IsPlayedTo (stock : Stock) (start : Region) (texts rest : List (List ℕ)) (number : ℕ) : Type 0 where

@@ -5,4 +5,5 @@ pub mod Lines
 pub mod Splitting
 pub mod Parts
 pub mod Played
+pub mod Kept
 pub mod Journal
