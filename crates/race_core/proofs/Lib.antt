@@ -1,0 +1,6 @@
+mod Stocked
+mod Places
+mod Drawing
+mod Openings
+mod Askings
+mod Texts
