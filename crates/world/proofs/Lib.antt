@@ -7,3 +7,4 @@ pub mod Fresh
 pub mod Loaded
 pub mod Handed
 pub mod Owed
+pub mod Dying

@@ -145,11 +145,11 @@ unused_later l k answers more who stays same is =
       unanswered = same ∙ is.unanswered;
     }
 
--- the opener at place i made a step
-pub stepped : (l k : Local) (openers : List OpenerState) (answers : List Answer) (i : ℕ) (o next : OpenerState) (came : Step) → IsWorld l openers answers → slice_get openers i ≡ Some o →
-    MakesOne (share_of l (i + 1)) (share_of k (i + 1)) → Tied next (share_of k (i + 1)) → Settles o came next (share_of l (i + 1)) (share_of k (i + 1)) → KeepsWork o came next →
+-- the opener at place i moved
+moved : (l k : Local) (openers : List OpenerState) (answers : List Answer) (i : ℕ) (o next : OpenerState) (came : Step) → IsWorld l openers answers → slice_get openers i ≡ Some o →
+    MakesOne (share_of l (i + 1)) (share_of k (i + 1)) → Tied next (share_of k (i + 1)) → Settles o came next (share_of l (i + 1)) (share_of k (i + 1)) → AnswersOf (i + 1) came →
     CountsSoFar next.work → IsWorld k (set openers i next) (answers ++ answers_by came)
-stepped l k openers answers i o next came world at makes tied settles keeps counted =
+moved l k openers answers i o next came world at makes tied settles own counted =
     record {
       few = omega (arith, len, world.few);
       accepted = subst IsAccepted (sym (stays_by (i + 1) 0 l k (λ e. absurd (omega (arith, e))) makes).start) world.accepted;
@@ -170,9 +170,6 @@ stepped l k openers answers i o next came world at makes tied settles keeps coun
     inside : i < length openers
     inside = slice_get_within openers i o at
 
-    own : AnswersOf (i + 1) came
-    own = subst (λ w. AnswersOf w came) (world.each i o at).number (answers_for o next came o.work refl keeps)
-
     each : (j : ℕ) (p : OpenerState) → slice_get (set openers i next) j ≡ Some p → ((eqb i j ≡ true) × (i ≡ j)) ⊎ ((eqb i j ≡ false) × (i ≢ j)) →
         OpenerIs k (answers ++ answers_by came) (j + 1) p
     each j p is (inl same) =
@@ -189,6 +186,22 @@ stepped l k openers answers i o next came world at makes tied settles keeps coun
         let n : i + 1 ≢ j + 1 = (λ e. apart.1 (omega (arith, e))) in
         opener_later l k answers (answers ++ answers_by came) (j + 1) p (stays_by (i + 1) (j + 1) l k n makes) (agrees_with k (i + 1) (j + 1) tied.told.agrees)
         (others_answers (i + 1) (j + 1) answers came n own) (world.each j p (sym (set_elsewhere openers i j next apart.1) ∙ is))
+
+-- it made a step
+pub stepped : (l k : Local) (openers : List OpenerState) (answers : List Answer) (i : ℕ) (o next : OpenerState) (came : Step) → IsWorld l openers answers → slice_get openers i ≡ Some o →
+    MakesOne (share_of l (i + 1)) (share_of k (i + 1)) → Tied next (share_of k (i + 1)) → Settles o came next (share_of l (i + 1)) (share_of k (i + 1)) → KeepsWork o came next →
+    CountsSoFar next.work → IsWorld k (set openers i next) (answers ++ answers_by came)
+stepped l k openers answers i o next came world at makes tied settles keeps counted =
+    moved l k openers answers i o next came world at makes tied settles (subst (λ w. AnswersOf w came) (world.each i o at).number (answers_for o next came o.work refl keeps)) counted
+
+-- it died
+pub died : (l k : Local) (openers : List OpenerState) (answers : List Answer) (i : ℕ) (o next : OpenerState) → IsWorld l openers answers → slice_get openers i ≡ Some o →
+    MakesOne (share_of l (i + 1)) (share_of k (i + 1)) → Tied next (share_of k (i + 1)) → ((own : List Answer) → AreSettled o own (history_of l) → AreSettled next own (history_of k)) →
+    CountsSoFar next.work → IsWorld k (set openers i next) answers
+died l k openers answers i o next world at makes tied settles counted =
+    subst (IsWorld k (set openers i next)) (append-nil answers)
+    (moved l k openers answers i o next (step.Stopped stop.Fault) world at makes tied
+    (λ own settled. subst (λ all. AreSettled next all (history_of k)) (sym (append-nil own)) (settles own settled)) tt counted)
 
 -- a call of the opener at place i was begun
 pub began : (l : Local) (openers : List OpenerState) (answers : List Answer) (i : ℕ) (o next : OpenerState) → IsWorld l openers answers → slice_get openers i ≡ Some o →

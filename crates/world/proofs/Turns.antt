@@ -72,7 +72,7 @@ holds_exclusive p Idle is alive some = ap (lock_in p.holds) is ∙ exclusive_if 
 holds_exclusive p Ended is alive some = absurd cc
 holds_exclusive p (Runs running stage) is alive some = ap (lock_in p.holds) is ∙ exclusive_if p.holds running.taken some
 
-same_seat : (s t : ShareState) → MakesOne s t → t.who ≡ s.who
+pub same_seat : (s t : ShareState) → MakesOne s t → t.who ≡ s.who
 same_seat s t (inl same) = ap (λ (x : ShareState). x.who) same
 same_seat s t (inr (left, after, few)) = after.same.who
 

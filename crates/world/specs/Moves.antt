@@ -1,5 +1,5 @@
 -- What a world's calls do.
-use Rattle.std.specs.Prelude.{◌≡◌, ◌≢◌, ℕ, ◌+◌, ◌-◌, ◌*◌, ◌<◌, ◌≤◌, List, [], ◌∷◌, ◌++◌, ◌^◌, ◌⊎◌, ◌==◌, if◌then◌else◌, length, slice_set, Bool, Some, None, ⊤}
+use Rattle.std.specs.Prelude.{◌≡◌, ◌≢◌, ℕ, ◌+◌, ◌-◌, ◌*◌, ◌<◌, ◌≤◌, List, [], ◌∷◌, ◌++◌, ◌^◌, ◌⊎◌, ◌==◌, if◌then◌else◌, length, slice_set, Bool, true, false, Option, Some, None, ⊤}
 use Rattle.change_log.specs.History.{Legal}
 use Rattle.change_log.specs.declared.call.Answer.{Answer}
 use Rattle.change_log.specs.declared.call.Call.{Call}
@@ -14,8 +14,10 @@ use Rattle.region_words.specs.declared.places.AdmitStop.TheVariants as admit
 use Rattle.opener.specs.Adds.{AddsTo}
 use Rattle.opener.specs.Begins.{Begins, refusal}
 use Rattle.opener.specs.Bound.{Falls, steps_left}
+use Rattle.opener.specs.Deaths.{DiesAt}
 use Rattle.opener.specs.Fresh.{CountedBy, CountsSoFar}
 use Rattle.opener.specs.Opener.{HasCause, IsAnswer, KeepsWork, MakesOne, OnAnswer}
+use Rattle.opener.specs.Quick.{ended_as}
 use Rattle.opener.specs.Quiet.{RestsQuietly}
 use Rattle.opener.specs.Settles.{answers_by}
 use Rattle.opener.specs.State.{OpenerState}
@@ -123,6 +125,21 @@ IsSaid count (step.Stopped why) said = said ≡ moved.Stopped why
 abbrev pub Moves : ℕ → Moved → WorldState → WorldState → Type 0
 Moves who moved.NoOpener old new = (new ≡ old) × ((o : OpenerState) → Lives old.openers who o → ⊥)
 Moves who said old new = (o next : OpenerState) × (came : Step) × IsSaid (length old.answers) came said × Steps who o next came old new
+
+-- An opener died. Where its next step would have stored a payload word, that one is torn to these bits, where any are given; nobody else
+-- moved, and nothing was answered.
+pub record Kills (who : ℕ) (bits : Option ℕ) (o : OpenerState) (old new : WorldState) : Type 0 where
+  pub lives : Lives old.openers who o
+  pub dies : DiesAt o.work bits (share_of old.region who) (share_of new.region who)
+  pub openers : new.openers ≡ slice_set old.openers (who - 1) (ended_as who)
+  pub answers : new.answers ≡ old.answers
+  pub start : new.region.start ≡ old.region.start
+  pub noted : new.noted ≡ old.noted
+
+-- the death of the opener of this number, where it lives; where none of that number does, nothing moved
+abbrev pub Dies : ℕ → Option ℕ → Bool → WorldState → WorldState → Type 0
+Dies who bits true old new = (o : OpenerState) × Kills who bits o old new
+Dies who bits false old new = (new ≡ old) × ((o : OpenerState) → Lives old.openers who o → ⊥)
 
 -- as long as checksums tell payloads apart, answers and changes are one legal history
 abbrev pub IsOneHistory : WorldState → Type 0

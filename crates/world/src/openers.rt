@@ -1,12 +1,13 @@
 // Openers by their numbers, and what they do to the region that they share.
-ghost use Rattle.std.specs.Prelude.{◌≡◌, ◌≢◌, ◌+◌, ◌++◌, ◌∷◌, [], ◌<◌, ◌≤◌, Bool, None, IfErr, IfOk, IfSome, OnErr, OnOk, false, length, slice_get, slice_set, vec_capacity, vec_len};
+ghost use Rattle.std.specs.Prelude.{true, ◌≡◌, ◌≢◌, ◌+◌, ◌++◌, ◌∷◌, [], ◌<◌, ◌≤◌, Bool, None, IfErr, IfOk, IfSome, OnErr, OnOk, false, length, slice_get, slice_set, vec_capacity, vec_len};
 ghost use Rattle.region_words.specs.Local.{seat_state};
+ghost use Rattle.opener.specs.Deaths.{DeathEnds, DeathSettles, DiesAt};
 ghost use Rattle.opener.specs.Opener.{Tied, is_ended};
 ghost use Rattle.opener.specs.Settles.{answers_by};
 ghost use Rattle.opener.specs.State.{OpenerState};
 ghost use Rattle.opener.specs.declared.work.Work.TheVariants as Work;
 ghost use Rattle.world.specs.World.{IsWorld, Lives, WorldState, calls_running};
-ghost use Rattle.world.specs.Moves.{Begun, HoldsAreKept, IfAnswered, IsNotBegun, IsNotOpened, IsSaid, Moves, Opens, new_opener, stop_of_admission, world_of};
+ghost use Rattle.world.specs.Moves.{Begun, Dies, HoldsAreKept, IfAnswered, IsNotBegun, IsNotOpened, IsSaid, Moves, Opens, new_opener, stop_of_admission, world_of};
 
 use crate::moves::Moved;
 use crate::stops::{OpenStop, WorldStop};
@@ -134,6 +135,42 @@ pub(crate) fn step_at(
     seat.turn_to(place as u32 + 1);
     let came = openers[place].step(seat);
     said(came, answers)
+}
+
+// The opener at this place dies.
+pub(crate) fn die_at(
+    alloc: Global,
+    seat: &mut LocalSeat,
+    openers: &mut Vec<OpenerCore>,
+    answers: &Vec<Answer>,
+    place: usize,
+    torn: Option<u32>,
+)
+    requires world { IsWorld seat.old.region openers.old.items answers.now.items }
+    requires inside { place < vec_len openers.old }
+    requires alive { (o : OpenerState) → slice_get openers.old.items place ≡ Some o → is_ended o.work ≡ false }
+    ensures world { IsWorld seat.new.region openers.new.items answers.now.items }
+    ensures fewer { calls_running openers.new.items ≤ calls_running openers.old.items }
+    ensures dies { (noted : Bool) → Dies (place + 1) torn true (world_of seat.old openers.old.items answers.now.items noted) (world_of seat.new openers.new.items answers.now.items noted) }
+    ensures start { seat.new.region.start ≡ seat.old.region.start }
+{
+    let who = place as u32 + 1;
+    seat.turn_to(who);
+    let opener = mem::replace(&mut openers[place], OpenerCore::ended(alloc, who));
+    die(opener, seat, torn);
+}
+
+// An opener dies at a region in memory, which turns nobody away.
+fn die(opener: OpenerCore, seat: &mut LocalSeat, torn: Option<u32>)
+    requires { Tied opener (seat_state seat.old) }
+    ensures dead { DiesAt opener.work torn (seat_state seat.old) (seat_state seat.new) }
+    ensures ended { DeathEnds opener (seat_state seat.new) }
+    ensures settles { DeathSettles opener (seat_state seat.old) (seat_state seat.new) }
+{
+    match opener.die(seat, torn) {
+        Ok(()) => {}
+        Err(_) => unreachable!(),
+    }
 }
 
 // What is said of a step. An answer is put behind the others, where there is room for one.

@@ -6,7 +6,7 @@ ghost use Rattle.region_words.specs.Local.{no_account};
 ghost use Rattle.region_words.specs.Region.{IsAccepted, base};
 ghost use Rattle.world.specs.Handlers.{HaveHandlers, of_living};
 ghost use Rattle.world.specs.World.{IsLiving, IsSound, Lives};
-ghost use Rattle.world.specs.Moves.{Begun, HoldsAreKept, IsNotBegun, IsNotOpened, IsOneHistory, Moves, Opens, RestsWithItsHistory, RestsWithoutDeath};
+ghost use Rattle.world.specs.Moves.{Begun, Dies, HoldsAreKept, IsNotBegun, IsNotOpened, IsOneHistory, Moves, Opens, RestsWithItsHistory, RestsWithoutDeath};
 
 use crate::moves::Moved;
 use crate::openers::{MOST_OPENERS, push_within};
@@ -63,8 +63,8 @@ impl World {
         self.core.base()
     }
 
-    /// Opens one more opener with this handler, which was asked and told nothing yet, and gives its number. It lives until a call on
-    /// the region fails for it.
+    /// Opens one more opener with this handler, which was asked and told nothing yet, and gives its number. It lives until it dies,
+    /// or a call on the region fails for it.
     pub fn open(&mut self, handler: Box<dyn Handler + Send>) -> Result<u32, NotOpened>
         requires fresh { (told handler ≡ []) × (changes_told handler ≡ []) }
         ensures sound { IsSound self.new.core }
@@ -114,6 +114,21 @@ impl World {
             self.handlers[who as usize - 1] = None;
         }
         moved
+    }
+
+    /// The opener of this number dies: its lock is given up, and its handler is dropped. Where its next step would store a payload
+    /// word, a death with `torn` leaves the bytes of that word on which the old one and the new one agree, and the others are those of
+    /// `torn`, little-endian. The answer is whether one lived.
+    pub fn die(&mut self, who: u32, torn: Option<u32>) -> bool
+        ensures sound { IsSound self.new.core }
+        ensures dies { Dies who torn result self.old.core self.new.core }
+        ensures handlers { self.new.handlers.items ≡ of_living self.new.core.openers self.old.handlers.items }
+    {
+        if !self.core.die(who, torn) {
+            return false;
+        }
+        self.handlers[who as usize - 1] = None;
+        true
     }
 
     /// Whether an opener of this number was opened and lives.

@@ -5,11 +5,11 @@ ghost use Rattle.opener.specs.State.{OpenerState};
 ghost use Rattle.region_words.specs.Local.{no_account};
 ghost use Rattle.region_words.specs.Region.{IsAccepted, base};
 ghost use Rattle.world.specs.World.{IsLiving, IsSound, Lives};
-ghost use Rattle.world.specs.Moves.{Begun, HoldsAreKept, IsNotBegun, IsNotOpened, IsOneHistory, Moves, Opens, RestsWithItsHistory, RestsWithoutDeath};
+ghost use Rattle.world.specs.Moves.{Begun, Dies, HoldsAreKept, IsNotBegun, IsNotOpened, IsOneHistory, Moves, Opens, RestsWithItsHistory, RestsWithoutDeath};
 
 use crate::base::start_map;
 use crate::moves::Moved;
-use crate::openers::{MOST_OPENERS, begin_at, open_one, place_of, step_at};
+use crate::openers::{MOST_OPENERS, begin_at, die_at, open_one, place_of, step_at};
 use crate::stops::{OpenStop, WorldStop};
 use change_log::{Answer, Call};
 use expiring_map::{ExpiringMap, Memory};
@@ -140,6 +140,27 @@ impl WorldCore {
             return Moved::NoOpener;
         };
         step_at(&mut self.seat, &mut self.openers, &mut self.answers, place)
+    }
+
+    /// The opener of this number dies, and its lock is given up. Where its next step would store a payload word, a death with
+    /// `torn` leaves the bytes of that word on which the old one and the new one agree, and the others are those of `torn`,
+    /// little-endian. The answer is whether one lived.
+    pub fn die(&mut self, who: u32, torn: Option<u32>) -> bool
+        ensures sound { IsSound self.new }
+        ensures dies { Dies who torn result self.old self.new }
+    {
+        let Some(place) = place_of(&self.openers, who) else {
+            return false;
+        };
+        die_at(
+            self.alloc,
+            &mut self.seat,
+            &mut self.openers,
+            &self.answers,
+            place,
+            torn,
+        );
+        true
     }
 
     /// Whether an opener of this number was opened and lives.
