@@ -2,39 +2,43 @@
 use crate::worlds::{finish, get, numbers, put, sizes, stored};
 use change_log::{Call, Reply};
 use std::alloc::Global;
+use std::mem;
 use std::test::Fail;
 use world::{Moved, World};
 
 // Opener 1 gets the pair, and dies after so many steps of its put.
-fn after_death(alloc: Global, steps: u32, torn: Option<u32>) -> Option<World> {
-    let mut world = stored(alloc, &[], 2)?;
+fn dies_in_a_put(alloc: Global, world: &mut World, steps: u32, torn: Option<u32>) -> Option<bool> {
     world.begin(1, get(alloc).ok()?, 100).ok()?;
-    let Moved::Answered(_) = finish(&mut world, 1) else {
+    if finish(world, 1) != Moved::Answered(0) {
         return None;
-    };
+    }
     world.begin(1, put(alloc, b"k", b"\x01d").ok()?, 100).ok()?;
     for _ in 0..steps {
         world.step(1);
     }
-    if world.die(1, torn) {
-        Some(world)
-    } else {
-        None
-    }
+    Some(world.die(1, torn))
 }
 
-// The length of the value that opener 2 gets then, and how many changes there are.
-fn next_value(alloc: Global, steps: u32, torn: Option<u32>) -> Option<(usize, usize)> {
-    let mut world = after_death(alloc, steps, torn)?;
+// The length of the value that opener 2 gets, and how many changes there are.
+fn value_of_another(alloc: Global, world: &mut World) -> Option<(usize, usize)> {
     world.begin(2, get(alloc).ok()?, 100).ok()?;
-    let Moved::Answered(place) = finish(&mut world, 2) else {
+    if finish(world, 2) != Moved::Answered(1) {
         return None;
-    };
-    let (_, changes, _) = sizes(alloc, &world)?;
-    match &world.answers().get(place)?.reply {
+    }
+    let (_, changes, _) = sizes(alloc, world)?;
+    match &world.answers().get(1)?.reply {
         Reply::Value(value) => Some((value.as_slice().len(), changes)),
         _ => None,
     }
+}
+
+// What opener 2 gets once opener 1 has died after so many steps of its put.
+fn next_value(alloc: Global, steps: u32, torn: Option<u32>) -> Option<(usize, usize)> {
+    let mut world = stored(alloc, &[], 2)?;
+    let died = dies_in_a_put(alloc, &mut world, steps, torn);
+    let value = value_of_another(alloc, &mut world);
+    mem::drop(world);
+    if died == Some(true) { value } else { None }
 }
 
 #[test]
