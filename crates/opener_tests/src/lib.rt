@@ -4,8 +4,6 @@
 #[cfg(test)]
 mod calls;
 #[cfg(test)]
-mod deaths;
-#[cfg(test)]
 mod loads;
 #[cfg(test)]
 mod quick;

@@ -4,8 +4,6 @@
 #[cfg(test)]
 mod appended;
 #[cfg(test)]
-mod deaths;
-#[cfg(test)]
 mod openings;
 #[cfg(test)]
 mod turns;
