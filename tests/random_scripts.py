@@ -115,7 +115,7 @@ def refused(draw: random.Random, openers: int) -> str:
         'begin 1 1 put 61 u32 -1 0', 'begin 1 1 put 61 u64 18446744073709551616 0', 'begin 1 1 put 61 u32 007 0', 'begin 1 1 put 61 text abc 0',
         'begin 1 1 put 61 raw 61', 'begin 1 1 put 61 float 1 0', 'begin 1  1 count', 'begin 1 1 count\r', 'begin 1 1 enable',
         'begin 1 1 enable 4294967296', 'begin 1 1 enable 00', 'begin 1 1 enable 0 0', 'begin 1 1 disable 0', 'begin 1 1 Disable',
-        'die 1', 'die 1 ffffffff', 'call 1 1 count', 'count', 'begin 1 1 drop', '\x01', 'é',
+        f'die {openers + 1}', 'die 0', 'die', 'die 1 fffffff', 'die 1 fffffffg', 'die 1 1 1', 'call 1 1 count', 'count', 'begin 1 1 drop', '\x01', 'é',
     ])
 
 
@@ -129,17 +129,33 @@ class Drawing:
     def __init__(self, draw: random.Random, case: Case):
         self.draw = draw
         self.lines: List[str] = []
+        # (how often a line is a death: never, or in some scripts)
+        self.deaths = draw.choice([0.0, 0.0, 0.02, 0.05])
         data, meta = (file.start.ljust(file.size(), b'\0') if file else b'' for file in (case.data, case.meta))
         self.player = model.Player(model.Region(data, meta))
+        # (a play ends where an image isn't whole: at its start, or as an opener comes upon it)
         self.is_whole = model.ended(lambda: model.play(data, meta, lambda: b''))[0] == 0
 
     def add(self, line: str) -> None:
         self.lines.append(line)
         if self.is_whole:
-            self.player.play_line(model.parse_line(line.encode()))
+            try:
+                self.player.play_line(model.parse_line(line.encode()))
+            except model.Ended:
+                self.is_whole = False
 
     def openers(self) -> int:
         return len(self.player.openers) if self.is_whole else 1
+
+    def lives(self, who: int) -> bool:
+        return not self.is_whole or self.player.openers[who - 1].alive
+
+    def death(self) -> str:
+        """Mostly of an opener whose call runs, and rather of the one that writes. Whoever comes next may see what it left."""
+        living = [who for who in range(1, self.openers() + 1) if self.lives(who)]
+        holder = self.player.region.exclusive
+        who = holder if holder in living and self.draw.random() < 0.7 else self.draw.choice(living)
+        return f'die {who}' + self.draw.choice(['', f' {self.draw.getrandbits(32):08x}', ' 00000000', ' FFFFFFFF'])
 
     def running(self) -> List[int]:
         return [opener.who for opener in self.player.openers if opener.running]
@@ -149,16 +165,19 @@ class Drawing:
         holder = self.player.region.exclusive
         if holder in running and self.draw.random() < 0.5:
             running = [holder]
-        who = self.draw.choice(running) if running and self.draw.random() < 0.95 else self.draw.randint(1, self.openers())
+        living = [who for who in range(1, self.openers() + 1) if self.lives(who)]
+        who = self.draw.choice(running) if running and self.draw.random() < 0.95 else self.draw.choice(living)
         return f'step {who} {self.draw.choice([1, 1, 2, 3, 7, 20, 100_000, 1_048_576])}'
 
     def line(self) -> str:
         draw, running = self.draw, self.running()
-        if self.openers() < 6 and draw.random() < 0.06:
+        if self.openers() < 6 and draw.random() < 0.06 or not any(self.lives(who) for who in range(1, self.openers() + 1)):
             return f'open {draw.choice(["discard", "recover", "leave"])}'
+        if draw.random() < self.deaths:
+            return self.death()
         if draw.random() < 0.03:
             return draw.choice(['', '#', '# open leave', '#\x00\xff'])
-        idle = [who for who in range(1, self.openers() + 1) if who not in running]
+        idle = [who for who in range(1, self.openers() + 1) if who not in running and self.lives(who)]
         holder = self.player.region.exclusive
         if holder in idle and running and draw.random() < 0.4:
             return f'begin {holder} {moment(draw)} release'
@@ -172,7 +191,7 @@ class Drawing:
         for who in self.running():
             self.add(f'step {who} 100000')
         for opener in self.player.openers:
-            while opener.holds and not opener.running:
+            while opener.alive and opener.holds and not opener.running and self.is_whole:
                 self.add(f'begin {opener.who} {moment(self.draw)} release')
                 self.add(f'step {opener.who} 1')
 
@@ -182,6 +201,8 @@ class Drawing:
             self.add(f'open {draw.choice(["discard", "recover", "leave"])}')
         for _ in range(draw.choice([2, 10, 30, 60, 120])):
             self.add(self.line())
+            if not self.is_whole and draw.random() < 0.3:
+                break
             if draw.random() < 0.04:
                 self.give_up_holds()
         if draw.random() < 0.16:

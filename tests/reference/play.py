@@ -5,10 +5,11 @@
     tests/reference/play.py DIR play ID < SCRIPT
     tests/reference/play.py --ahead DIR play ID < SCRIPT
 
-The words are the program's own. With `--ahead` it plays what the program doesn't have yet: deaths of openers, with torn words, starts that
-show no whole image, the exclusive lock of a read that met such an image, repairs, and what a handler answers to damage. The model was written from the rules of the format and of the script language, not from the program, and
-shares no code with it. It prints what the program must print and ends with the status that the program must end with (the table in
-README.md). It doesn't model faults of reading and writing beyond what Python reports, nor want of memory.
+The words are the program's own. With `--ahead` it plays what the program doesn't have yet: starts that show no whole image, the exclusive
+lock of a read that met such an image, repairs, and what a handler answers to damage. The model was written from the rules of the format and
+of the script language, not from the program, and shares no code with it. It prints what the program must print and ends with the status
+that the program must end with (the table in README.md).
+It doesn't model faults of reading and writing beyond what Python reports, nor want of memory.
 
 What it takes on trust is Python's own: `zlib.crc32`, dictionaries, sorting of bytes.
 
@@ -417,6 +418,10 @@ class Stopped:
     reason: str
 
 
+# What the program says of an image that isn't whole, and that it doesn't repair yet.
+NOT_YET = 'not yet'
+
+
 class Stop(Exception):
     def __init__(self, reason: str):
         super().__init__(reason)
@@ -475,6 +480,7 @@ class Opener:
     holds: int = 0
     running: Optional[Running] = None
     alive: bool = True
+    ahead: bool = False
 
     def begin(self, call: Call, now: int) -> None:
         if self.running:
@@ -524,6 +530,7 @@ class Opener:
             except StopIteration:
                 pass
         self.region.die(self.who, torn)
+        self.running = None
         self.alive = False
 
     @staticmethod
@@ -537,6 +544,8 @@ class Opener:
 
     def end_text(self, running: Running, end: Any) -> str:
         if isinstance(end, Stopped):
+            if end.reason == NOT_YET:
+                raise Ended(17, NOT_YET)
             return f'stopped {self.who} {end.reason}'
         counts = f'loads {running.loads} stores {running.stores} locks {running.locks}'
         places = f'begun {running.begun} place {end.place} ended {len(self.region.changes)}'
@@ -574,7 +583,7 @@ class Opener:
         if not self.holds:
             yield (self.region.lock_shared, self.who)
         seen = yield from load()
-        raised = not seen.is_whole() and not self.holds
+        raised = self.ahead and not seen.is_whole() and not self.holds
         if raised:
             yield (self.region.unlock, self.who)
             yield (self.region.lock_exclusive, self.who)
@@ -612,10 +621,12 @@ class Opener:
 
     def repair(self, seen: Seen) -> Steps:
         """Under the exclusive lock, what isn't whole becomes so; a whole image is kept as it is. Where the handler leaves damage as it is,
-        and where the sequence can't be raised, the call is stopped."""
+        and where the sequence can't be raised, the call is stopped. The program, which doesn't repair yet, ends the play there."""
         self.image = seen.image
         if seen.is_whole():
             return
+        if not self.ahead:
+            raise Stop(NOT_YET)
         if seen.name == 'header':
             events: List[Operation] = [(self.region.store_meta, RECORD_SIZE, len(seen.image.payload))]
         elif seen.image.sequence == LAST_SEQUENCE:
@@ -1080,7 +1091,7 @@ def region_text(region: Region) -> List[str]:
 
 @dataclass
 class Player:
-    """A script played on a region, line by line. Deaths are taken only ahead of the program."""
+    """A script played on a region, line by line. What isn't whole is repaired only ahead of the program."""
     region: Region
     ahead: bool = False
     openers: List[Opener] = field(default_factory=list)
@@ -1105,8 +1116,6 @@ class Player:
         elif isinstance(line, Step):
             self.step(self.opener_of(line.who), line.count)
         elif isinstance(line, Die):
-            if not self.ahead:
-                raise BadLine
             self.opener_of(line.who).die(line.bits)
 
     def open(self, strategy: str) -> None:
@@ -1115,7 +1124,7 @@ class Player:
             raise BadLine
         who = len(self.openers) + 1
         self.region.admit(who)
-        self.openers.append(Opener(who, self.region, strategy))
+        self.openers.append(Opener(who, self.region, strategy, ahead=self.ahead))
 
     def opener_of(self, who: int) -> Opener:
         if not 1 <= who <= len(self.openers) or not self.openers[who - 1].alive:
@@ -1170,7 +1179,7 @@ def play(data: bytes, meta: bytes, script: Callable[[], bytes], ahead: bool = Fa
     ahead of the program."""
     region = checked_region(data, meta)
     if not ahead and not shown(region).whole:
-        raise Ended(17, 'not yet')
+        raise Ended(17, NOT_YET)
     player = Player(region, ahead)
     player.play(script())
     return player.lines + changes_text(region.changes) + region_text(region)

@@ -1,5 +1,5 @@
 -- A line that begins a call, or names nothing.
-use Rattle.std.proofs.Common.{◌≡◌, ◌≢◌, ℕ, zero, suc, ◌+◌, ◌-◌, ◌<◌, ◌≤◌, ◌⊎◌, Bool, true, false, not, eqb, List, [], ◌∷◌, ◌++◌, length, set, refl, sym, ap, ◌∙◌, inl, inr, arith, subst, append-nil, eq-eqb}
+use Rattle.std.proofs.Common.{◌≡◌, ◌≢◌, ℕ, zero, suc, ◌+◌, ◌-◌, ◌<◌, ◌≤◌, ◌⊎◌, Bool, true, false, not, ◌||◌, eqb, List, [], ◌∷◌, ◌++◌, length, set, refl, sym, ap, ◌∙◌, inl, inr, arith, subst, append-nil, eq-eqb}
 use Rattle.std.proofs.lemmas.Bool.Decides.{eqb_tells, nat_tests}
 use Rattle.std.proofs.lemmas.List.{length-set}
 use Rattle.std.specs.Prelude.{Option, Some, None, IfSome, IsTrue, flat_map, nat_le, option_map, slice_get, ◌&&◌, ◌==◌, if◌then◌else◌}
@@ -9,21 +9,21 @@ use Rattle.change_log.specs.declared.call.Call.{Call as Asked}
 use Rattle.change_log.specs.Settled.{AreEndedBy}
 use Rattle.handlers.specs.declared.handler.Strategy.{Strategy}
 use Rattle.opener.specs.Begins.{Begins, call_refusal, refusal_at}
-use Rattle.opener.specs.Opener.{is_ended}
+use Rattle.opener.specs.Opener.{Tied, is_ended}
 use Rattle.opener.specs.State.{OpenerState}
 use Rattle.opener.specs.declared.calls.Stop.TheVariants as stop
 use Rattle.opener.specs.declared.calls.Step.TheVariants as step
 use Rattle.opener.specs.declared.work.Work.{Work}
 use Rattle.opener.specs.declared.work.Work.TheVariants.{Idle, Ended, Runs}
-use Rattle.region_words.specs.Local.{Local}
+use Rattle.region_words.specs.Local.{Local, account_of}
 use Rattle.region_words.specs.Past.{changes_of, has_died, region_after}
 use Rattle.region_words.specs.Region.{Region, file_size}
 use Rattle.region_words.specs.Share.{most_events}
 use Rattle.region_words.specs.declared.event.Event.{Event}
 use Rattle.script_lang.specs.Texts.{outcome_line}
 use Rattle.script_lang.specs.declared.line.Line.{Line}
-use Rattle.script_lang.specs.declared.line.Line.TheVariants.{Begin, Step as StepLine}
-use Rattle.world.specs.World.{IsSound, Lives}
+use Rattle.script_lang.specs.declared.line.Line.TheVariants.{Begin, Die, Step as StepLine}
+use Rattle.world.specs.World.{IsSound, Lives, share_of}
 use Rattle.world.specs.Moves.{BeginsCall, IsNotBegun}
 use Rattle.world.specs.declared.stops.WorldStop.{WorldStop}
 use Rattle.world.specs.declared.stops.WorldStop.TheVariants as begin
@@ -33,25 +33,21 @@ use Rattle.mmkv_top.specs.State.{PlayState}
 use Rattle.script_lang.specs.Parts.{going_on, Part, answers_in, asked_of, lives, opened_by, outcomes_of, past_of, running, Running, strategies}
 use Rattle.script_lang.specs.Journal.{AreAnswered, IsPlayableLine}
 use Rattle.script_lang.specs.Played.{IsPartOf, Stock, drawn, places_after, stocked}
-use Rattle.mmkv_top.specs.Progress.{AreEarlier, FollowsWork, HasHalted, HasMarked, HasStored, IsAt, IsBounded, IsNobody, IsOpenTo, IsOpened, IsUnopened, StopSaw, TakesOne}
-use Rattle.mmkv_top.proofs.Histories.{history_of}
+use Rattle.mmkv_top.specs.Progress.{AreEarlier, FollowsWork, HasHalted, HasMarked, HasStored, IsAt, IsBounded, IsLeft, IsNobody, IsOpenTo, IsOpened, IsUnopened, StopSaw, TakesOne}
+use Rattle.mmkv_top.proofs.Histories.{history_of, shown_of}
 use Rattle.mmkv_top.proofs.Answering.{earlier_now}
 use Rattle.mmkv_top.proofs.InTime.{begin_bounded, in_time}
 use Rattle.mmkv_top.proofs.NoPlaces.{opener_there, roomy}
-use Rattle.mmkv_top.proofs.Stepping.{follows_alive}
 use Rattle.script_lang.specs.Kept.{kept_of, looks_of}
 use Rattle.script_lang.proofs.Calls.{begin_asked, begin_other}
 use Rattle.script_lang.proofs.Looks.{looks_begin, looks_begin_other}
 use Rattle.mmkv_top.specs.Looking.{IsLooking}
 use Rattle.mmkv_top.proofs.LineLooks.{begun_looking}
-use Rattle.mmkv_top.proofs.Others.{opened_still, unopened_still}
+use Rattle.mmkv_top.proofs.Others.{Spares, left_other, living_left, quiet_spares, unopened_other}
 use Rattle.mmkv_top.proofs.Reasoning.{begin_found, begun_stopless, quiet_reasoned}
 use Rattle.mmkv_top.proofs.Marking.{begun_marked}
 use Rattle.mmkv_top.proofs.Storing.{begun_stored}
-use Rattle.mmkv_top.proofs.Walked.{lives_in, opened_at}
-
-abbrev IsRoomy : ℕ → List Event → Type 0
-IsRoomy opened past = length past + places_after opened past ≤ most_events
+use Rattle.mmkv_top.proofs.Walked.{IsRoomy, alive_in, opened_at}
 
 -- A line that makes nothing was taken, and left the world so.
 pub record Quiet (stock left left' : Stock) (start : Region) (parts : List Part) (line : Option Line) (p q : PlayState) : Type 0 where
@@ -64,10 +60,11 @@ pub record Quiet (stock left left' : Stock) (start : Region) (parts : List Part)
   pub may : IsPartOf stock parts line [] None
   pub playable : IsPlayableLine line
   pub stepless : (w n : ℕ) → line ≢ Some (StepLine w n)
+  pub deathless : (w : ℕ) (bits : Option ℕ) → line ≢ Some (Die w bits)
   pub count : length q.world.openers ≡ length (strategies (record { line = line; made = []; outcome = None } ∷ parts))
   pub open_to : IsOpenTo (length (strategies (record { line = line; made = []; outcome = None } ∷ parts))) q.world.region
   pub drawn : (s : Strategy) → stocked left' s + drawn s (strategies (record { line = line; made = []; outcome = None } ∷ parts)) ≡ stocked stock s
-  pub openers : (i : ℕ) (o : OpenerState) → slice_get q.world.openers i ≡ Some o → IsOpened start (record { line = line; made = []; outcome = None } ∷ parts) (i + 1) o
+  pub openers : (i : ℕ) (o : OpenerState) → slice_get q.world.openers i ≡ Some o → IsLeft start (record { line = line; made = []; outcome = None } ∷ parts) (i + 1) o
   pub unopened : (who : ℕ) → IsNobody (length (strategies (record { line = line; made = []; outcome = None } ∷ parts))) who → IsUnopened (record { line = line; made = []; outcome = None } ∷ parts) who
 
 pub quiet_taken : (stock left left' : Stock) (start : Region) (parts : List Part) (line : Option Line) (p q : PlayState) → IsAt stock left start parts p → Quiet stock left left' start parts line p q →
@@ -76,12 +73,12 @@ quiet_taken stock left left' start parts line p q at k = (
   [],
   None,
   record {
+    region = at.region;
     start_is = k.start_is ∙ at.start_is;
     past = k.past ∙ at.past;
     answers = k.answers ∙ at.answers ∙ same_answers;
     text = k.text ∙ at.text ∙ sym (ap (flat_map outcome_line) (append-nil (outcomes_of parts)));
     steady = k.listed ∙ at.steady;
-    live = at.live;
     each = (at.each, k.may);
     playable = (at.playable, k.playable);
     held = (at.held, λ who some. All-nil (λ (c : Change). c.maker ≡ who));
@@ -89,7 +86,9 @@ quiet_taken stock left left' start parts line p q at k = (
     reasoned = (at.reasoned, quiet_reasoned start (record { line = line; made = []; outcome = None }) parts refl);
     roomy = (at.roomy, subst (IsRoomy (length (strategies grown))) (k.past ∙ at.past) (roomy q.world k.sound (length (strategies grown)) k.open_to (sym k.count)));
     histories = (at.histories, history_of start grown q.world k.sound (k.start_is ∙ at.start_is) (k.past ∙ at.past) (k.answers ∙ at.answers ∙ same_answers));
+    shown = (at.shown, shown_of start grown q.world at.region k.sound (k.start_is ∙ at.start_is) (k.past ∙ at.past) (k.answers ∙ at.answers ∙ same_answers));
     answered = subst (AreAnswered start (past_of parts)) same_answers at.answered;
+    torn = (at.torn, λ w bits t is. absurd (k.deathless w bits is));
     by_words = (at.by_words, λ w n c step. absurd (k.stepless w n step));
     within = subst (AreEndedBy (length (changes_of (past_of parts)))) same_answers at.within;
     count = k.count;
@@ -131,11 +130,12 @@ nothing_taken stock left start parts p line none sound at =
       may = (refl, refl);
       playable = tt;
       stepless = λ w n e. absurd cc;
+      deathless = λ w bits e. absurd cc;
       count = at.count ∙ sym (ap length kept);
       open_to = subst (λ n. IsOpenTo n p.world.region) (sym (ap length kept)) at.open_to;
       drawn = drawn_still stock left start parts None refl at.drawn;
-      openers = λ i o is. opened_still start parts None (i + 1) refl refl refl o (at.openers i o is);
-      unopened = λ who is. unopened_still start parts None who refl refl refl (at.unopened who (subst (λ n. IsNobody n who) (ap length kept) is));
+      openers = λ i o is. left_other start parts _ (i + 1) (quiet_spares start parts None (i + 1) refl refl refl refl) o (at.openers i o is);
+      unopened = λ who is. unopened_other start parts _ who (quiet_spares start parts None who refl refl refl refl) (at.unopened who (subst (λ n. IsNobody n who) (ap length kept) is));
     }))
   where
     kept : strategies (record { line = None; made = []; outcome = None } ∷ parts) ≡ strategies parts
@@ -154,7 +154,7 @@ begun_follows call now n past old new is b =
     subst (λ (x : OpenerState). FollowsWork x.work (Some (record { call = call; now = now; past = past; since = [] }))) (sym b.work)
     (record { call = refl; moment = refl; begun = is; stores = refl; locks = refl })
 
-module _ (stock left : Stock) (start : Region) (parts : List Part) (p q : PlayState) (who now : ℕ) (call : Asked) (o next : OpenerState) (sound : IsSound q.world)
+module _ (stock left : Stock) (start : Region) (parts : List Part) (p q : PlayState) (who now : ℕ) (call : Asked) (o next : OpenerState) (before : IsSound p.world) (sound : IsSound q.world)
     (at : IsAt stock left start parts p) (b : BeginsCall who call now o next p.world q.world) (text : q.text ≡ p.text) where
   op : IsOpened start parts who o
   op = opened_at stock left start parts p who o at b.lives
@@ -212,21 +212,25 @@ module _ (stock left : Stock) (start : Region) (parts : List Part) (p q : PlaySt
   count_now : length q.world.openers ≡ length (strategies parts)
   count_now = ap length b.openers ∙ length-set p.world.openers (who - 1) next ∙ at.count
 
-  each_opened : (i : ℕ) (x : OpenerState) → slice_get q.world.openers i ≡ Some x → IsOpened start (record { line = Some (Begin who now call); made = []; outcome = None } ∷ parts) (i + 1) x
+  spares : (v : ℕ) → who ≢ v → Spares start parts (record { line = Some (Begin who now call); made = []; outcome = None }) v
+  spares v n =
+      quiet_spares start parts (Some (Begin who now call)) v (begin_other who v now call (past_of parts) (running v parts) n) (begin_asked who v now call (asked_of v parts) n)
+      (looks_begin_other who v now call (past_of parts) (looks_of v parts) n) refl
+
+  each_opened : (i : ℕ) (x : OpenerState) → slice_get q.world.openers i ≡ Some x → IsLeft start (record { line = Some (Begin who now call); made = []; outcome = None } ∷ parts) (i + 1) x
   each_opened i x is = go (eqb_tells (who - 1) i)
     where
       there : slice_get (set p.world.openers (who - 1) next) i ≡ Some x
       there = subst (λ l. slice_get l i ≡ Some x) b.openers is
 
-      go : ((eqb (who - 1) i ≡ true) × (who - 1 ≡ i)) ⊎ ((eqb (who - 1) i ≡ false) × (who - 1 ≢ i)) → IsOpened start grown (i + 1) x
+      go : ((eqb (who - 1) i ≡ true) × (who - 1 ≡ i)) ⊎ ((eqb (who - 1) i ≡ false) × (who - 1 ≢ i)) → IsLeft start grown (i + 1) x
       go (inl same) =
           let x_is : x ≡ next = set_is p.world.openers (who - 1) o next x b.lives.there (subst (λ n. slice_get (set p.world.openers (who - 1) next) n ≡ Some x) (sym same.1) there) in
           let own : who ≡ i + 1 = sym number ∙ ap (λ n. n + 1) same.1 in
-          subst (λ w. IsOpened start grown w x) own (subst (IsOpened start grown who) (sym x_is) opened_now)
+          subst (λ w. IsLeft start grown w x) own (subst (IsLeft start grown who) (sym x_is) (living_left start grown who next opened_now))
       go (inr apart) =
           let n : who ≢ i + 1 = (λ e. apart.1 (omega (arith, e, number))) in
-          opened_still start parts (Some (Begin who now call)) (i + 1) (begin_other who (i + 1) now call (past_of parts) (running (i + 1) parts) n) (begin_asked who (i + 1) now call (asked_of (i + 1) parts) n)
-          (looks_begin_other who (i + 1) now call (past_of parts) (looks_of (i + 1) parts) n) x
+          left_other start parts _ (i + 1) (spares (i + 1) n) x
           (at.openers i x (sym (set_elsewhere p.world.openers (who - 1) i next apart.1) ∙ there))
 
   below : who ≤ length (strategies parts)
@@ -238,9 +242,7 @@ module _ (stock left : Stock) (start : Region) (parts : List Part) (p q : PlaySt
       within (y ∷ xs) (suc i) x is = omega (arith, within xs i x is)
 
   nobody_else : (v : ℕ) → IsNobody (length (strategies parts)) v → IsUnopened (record { line = Some (Begin who now call); made = []; outcome = None } ∷ parts) v
-  nobody_else v is =
-      unopened_still start parts (Some (Begin who now call)) v (begin_other who v now call (past_of parts) (running v parts) (apart is)) (begin_asked who v now call (asked_of v parts) (apart is))
-      (looks_begin_other who v now call (past_of parts) (looks_of v parts) (apart is)) (at.unopened v is)
+  nobody_else v is = unopened_other start parts _ v (spares v (apart is)) (at.unopened v is)
     where
       apart : IsNobody (length (strategies parts)) v → who ≢ v
       apart (inl none) e = absurd (omega (arith, b.lives.numbered, e, none))
@@ -256,9 +258,10 @@ module _ (stock left : Stock) (start : Region) (parts : List Part) (p q : PlaySt
         listed = ap (λ (l : Local). l.failing.listed) b.region;
         answers = b.answers;
         text = text;
-        may = (record { alive = lives_in parts p.world.openers who o at.count at.live b.lives; idle = free.0; asks = subst (λ h. call_refusal call h ≡ None) op.holds free.1 }, (refl, refl));
+        may = (record { alive = alive_in stock left start parts p who o before at b.lives; idle = free.0; asks = subst (λ h. call_refusal call h ≡ None) op.holds free.1 }, (refl, refl));
         playable = tt;
         stepless = λ w n e. absurd cc;
+        deathless = λ w bits e. absurd cc;
         count = count_now ∙ sym (ap length kept);
         open_to = subst (λ n. IsOpenTo n q.world.region) (sym (ap length kept)) (subst (λ (l : Local). IsOpenTo (length (strategies parts)) l) (sym b.region) at.open_to);
         drawn = drawn_still stock left start parts (Some (Begin who now call)) refl at.drawn;
@@ -267,38 +270,51 @@ module _ (stock left : Stock) (start : Region) (parts : List Part) (p q : PlaySt
       })
 
 -- A call that was not begun can't be.
-nobody_lives : (parts : List Part) (openers : List OpenerState) (who : ℕ) → length openers ≡ length (strategies parts) → ((i : ℕ) (o : OpenerState) → slice_get openers i ≡ Some o → is_ended o.work ≡ false) →
-    IsTrue (lives who parts) → ((o : OpenerState) → Lives openers who o → ⊥) → ⊥
-nobody_lives parts openers who count alive living none = go (nat_le 1 who) (nat_le who (length (strategies parts))) (has_died (past_of parts) who) refl refl living
+-- no opener of that number lives
+pub unliving_halted : (stock left : Stock) (start : Region) (parts : List Part) (p : PlayState) (who : ℕ) → IsSound p.world → IsAt stock left start parts p → IsTrue (lives who parts) →
+    ((o : OpenerState) → Lives p.world.openers who o → ⊥) → ⊥
+unliving_halted stock left start parts p who sound at living none = go (nat_le 1 who) (nat_le who (length (strategies parts))) (has_died (past_of parts) who) refl refl refl living
   where
     within : (a b : ℕ) → nat_le a b ≡ true → a ≤ b
     within a b t = grind (arith, nat_tests)
 
-    go : (a b d : Bool) → nat_le 1 who ≡ a → nat_le who (length (strategies parts)) ≡ b → IsTrue (a && (b && not d)) → ⊥
-    go true true d least most t =
-        let some = within 1 who least in
-        let at = opener_there openers (who - 1) (omega (arith, some, within who (length (strategies parts)) most, count)) in
-        none at.0 (record { numbered = some; there = at.1; alive = alive (who - 1) at.0 at.1 })
-    go true false d least most t = absurd cc
-    go false b d least most t = absurd cc
+    -- an opener that was let in and has ended has died
+    has_ended : (a d : Bool) → a ≡ true → (not a || d) ≡ true → d ≡ true
+    has_ended true d admitted ended = ended
+    has_ended false d admitted ended = absurd cc
 
--- no opener of that number lives
-pub unliving_halted : (stock left : Stock) (start : Region) (parts : List Part) (p : PlayState) (who : ℕ) → IsAt stock left start parts p → IsTrue (lives who parts) → ((o : OpenerState) → Lives p.world.openers who o → ⊥) → ⊥
-unliving_halted stock left start parts p who at living none =
-    nobody_lives parts p.world.openers who at.count (λ i o is. follows_alive o.work (running (i + 1) parts) (at.openers i o is).follows) living none
+    dead : (o : OpenerState) → Tied o (share_of p.world.region who) → (account_of p.world.region.accounts who).admitted ≡ true → is_ended o.work ≡ true → has_died (past_of parts) who ≡ true
+    dead o tied admitted ended =
+        ap (λ past. has_died past who) (sym at.past) ∙ has_ended (account_of p.world.region.accounts who).admitted (has_died p.world.region.past who) admitted (tied.ended ∙ ended)
+
+    there : 1 ≤ who → nat_le who (length (strategies parts)) ≡ true → (o : OpenerState) → slice_get p.world.openers (who - 1) ≡ Some o → has_died (past_of parts) who ≡ false → (b : Bool) → is_ended o.work ≡ b → ⊥
+    there some most o at_place undead false alive = none o (record { numbered = some; there = at_place; alive = alive })
+    there some most o at_place undead true ended =
+        let is : who - 1 + 1 ≡ who = omega (arith, some) in
+        let tied : Tied o (share_of p.world.region who) = subst (λ w. Tied o (share_of p.world.region w)) is (sound.each (who - 1) o at_place).tied in
+        let both : false ≡ true = sym undead ∙ dead o tied (at.open_to who some ∙ most) ended in absurd cc
+
+    go : (a b d : Bool) → nat_le 1 who ≡ a → nat_le who (length (strategies parts)) ≡ b → has_died (past_of parts) who ≡ d → IsTrue (a && (b && not d)) → ⊥
+    go true true false least most undead t =
+        let some = within 1 who least in
+        let place = opener_there p.world.openers (who - 1) (omega (arith, some, within who (length (strategies parts)) most, at.count)) in
+        there some most place.0 place.1 undead (is_ended place.0.work) refl
+    go true true true least most undead t = absurd cc
+    go true false d least most undead t = absurd cc
+    go false b d least most undead t = absurd cc
 
 refused_never : (work : Work) (call : Asked) (holds : ℕ) → FollowsWork work None → call_refusal call holds ≡ None → refusal_at work call holds ≡ None
 refused_never Idle call holds follows none = none
 refused_never Ended call holds follows none = absurd follows
 refused_never (Runs c at) call holds follows none = absurd follows
 
-pub begin_halted : (stock left : Stock) (start : Region) (parts : List Part) (p : PlayState) (who now : ℕ) (call : Asked) (why : WorldStop) → IsAt stock left start parts p → IsNotBegun why who call p.world →
+pub begin_halted : (stock left : Stock) (start : Region) (parts : List Part) (p : PlayState) (who now : ℕ) (call : Asked) (why : WorldStop) → IsSound p.world → IsAt stock left start parts p → IsNotBegun why who call p.world →
     HasHalted stock start parts (Some (Begin who now call)) (of_begin why)
-begin_halted stock left start parts p who now call begin.NoOpener at nobody = λ can. unliving_halted stock left start parts p who at can.0.alive nobody
-begin_halted stock left start parts p who now call (begin.Refused why) at (o, lives, refuses) = λ can.
+begin_halted stock left start parts p who now call begin.NoOpener sound at nobody = λ can. unliving_halted stock left start parts p who sound at can.0.alive nobody
+begin_halted stock left start parts p who now call (begin.Refused why) sound at (o, lives, refuses) = λ can.
     let may = can.0 in
     let op = opened_at stock left start parts p who o at lives in
     let idle = subst (FollowsWork o.work) may.idle op.follows in
     let none = refused_never o.work call o.holds idle (subst (λ h. call_refusal call h ≡ None) (sym op.holds) may.asks) in
     let both : None ≡ Some why = sym none ∙ refuses in absurd cc
-begin_halted stock left start parts p who now call begin.Memory at is = tt
+begin_halted stock left start parts p who now call begin.Memory sound at is = tt

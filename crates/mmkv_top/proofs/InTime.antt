@@ -4,6 +4,7 @@ use Rattle.std.proofs.lemmas.Bool.{cases_lt}
 use Rattle.std.specs.Prelude.{Option, Some, None, nat_lt, option_map, slice_get, if◌then◌else◌}
 use Rattle.opener.specs.Begins.{Begins}
 use Rattle.opener.specs.Bound.{next_growth, steps_at, steps_left}
+use Rattle.opener.specs.Opener.{is_ended}
 use Rattle.opener.specs.Plans.{events_in}
 use Rattle.opener.specs.State.{OpenerState}
 use Rattle.opener.specs.declared.calls.Step.{Step}
@@ -24,7 +25,7 @@ use Rattle.script_lang.specs.declared.outcome.Outcome.{Outcome}
 use Rattle.script_lang.specs.declared.outcome.Outcome.TheVariants.{Answered, Blocked, Stopped}
 use Rattle.script_lang.specs.Parts.{Part, Running, asked_after, asked_of, going_on, past_of, running}
 use Rattle.script_lang.specs.Journal.{IsInTime}
-use Rattle.mmkv_top.specs.Progress.{CameTo, FollowsWork, IsBounded, IsNobody, IsOpened, IsOutcomeAt, IsUnopened, LeavesFewer}
+use Rattle.mmkv_top.specs.Progress.{CameTo, FollowsWork, IsBounded, IsLeft, IsNobody, IsOpened, IsOutcomeAt, IsUnopened, LeavesFewer}
 use Rattle.mmkv_top.proofs.NoPlaces.{opener_there}
 
 -- at each stage a step is left
@@ -146,12 +147,16 @@ opened_in_time start parts who o op c words runs fits = go o.work (subst (Follow
     go (Runs running at) follows bounded = omega (arith, bounded words fits, some_left words at)
 
 -- whoever runs it
-pub in_time : (start : Region) (parts : List Part) (openers : List OpenerState) → ((i : ℕ) (o : OpenerState) → slice_get openers i ≡ Some o → IsOpened start parts (i + 1) o) →
+pub in_time : (start : Region) (parts : List Part) (openers : List OpenerState) → ((i : ℕ) (o : OpenerState) → slice_get openers i ≡ Some o → IsLeft start parts (i + 1) o) →
     ((who : ℕ) → IsNobody (length openers) who → IsUnopened parts who) → IsInTime start parts
 in_time start parts openers each unopened who c words runs fits = go (cases_lt 0 who) (cases_lt (length openers) who)
   where
     nobody : IsNobody (length openers) who → asked_of who parts < 6 * words + 100
     nobody is = let both : None ≡ Some c = sym (unopened who is).idle ∙ runs in absurd cc
+
+    left_in_time : (o : OpenerState) → IsLeft start parts who o → (b : Bool) → is_ended o.work ≡ b → asked_of who parts < 6 * words + 100
+    left_in_time o left false alive = opened_in_time start parts who o (left.alive alive) c words runs fits
+    left_in_time o left true dead = let both : None ≡ Some c = sym (left.dead dead).idle ∙ runs in absurd cc
 
     go : (0 < who) ⊎ (who ≤ 0) → (length openers < who) ⊎ (who ≤ length openers) → asked_of who parts < 6 * words + 100
     go (inr none) far = nobody (inl (omega (arith, none)))
@@ -160,4 +165,4 @@ in_time start parts openers each unopened who c words runs fits = go (cases_lt 0
         let i = who - 1 in
         let is : i + 1 ≡ who = omega (arith, some) in
         let at = opener_there openers i (omega (arith, some, near)) in
-        opened_in_time start parts who at.0 (subst (λ w. IsOpened start parts w at.0) is (each i at.0 at.1)) c words runs fits
+        left_in_time at.0 (subst (λ w. IsLeft start parts w at.0) is (each i at.0 at.1)) (is_ended at.0.work) refl

@@ -20,8 +20,10 @@ journal_of stock left start parts p sound at =
       lawful = told (λ r past answers. Lawful r past) p.world start (past_of parts) (answers_in (outcomes_of parts)) at.start_is at.past at.answers sound.lawful;
       in_time = at.in_time;
       reasoned = at.reasoned;
+      torn = at.torn;
       roomy = at.roomy;
       answers = at.answered;
       histories = at.histories;
+      shown = at.shown;
       by_words = at.by_words;
     }

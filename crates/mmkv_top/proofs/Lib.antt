@@ -15,6 +15,7 @@ mod Others
 mod Walked
 mod Beginning
 mod Opening
+mod Deaths
 mod Histories
 mod Judged
 mod Taking

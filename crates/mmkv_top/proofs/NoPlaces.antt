@@ -9,7 +9,7 @@ use Rattle.change_log.specs.declared.call.Call.TheVariants as call
 use Rattle.lock_rules.specs.Locks.{Locks, MayTake, holds_exclusive}
 use Rattle.lock_rules.specs.declared.table.LockKind.{LockKind}
 use Rattle.lock_rules.specs.declared.table.LockKind.TheVariants.{Exclusive, Shared}
-use Rattle.opener.specs.Opener.{HasReason, HasStopped, IsAt, Owes, Tied, image_at, is_storing, lock_in, stop_found}
+use Rattle.opener.specs.Opener.{HasReason, HasStopped, IsAt, Owes, Tied, image_at, is_ended, is_storing, lock_in, stop_found}
 use Rattle.opener.specs.Calls.{is_write, kind_of, kind_tried}
 use Rattle.opener.specs.Plans.{CanWrite, IsPlanOf, events_in}
 use Rattle.opener.specs.State.{OpenerState}
@@ -212,6 +212,12 @@ writing o (Runs c (stage.Reserve plan)) r s some owes at follows = absurd (omega
 writing o (Runs c (stage.Unlock how)) r s some owes at follows = absurd (omega (arith, some, owes))
 writing o (Runs c stage.Hold) r s some owes at follows = absurd (omega (arith, some, owes))
 writing o (Runs c stage.Release) r s some owes at follows = absurd (omega (arith, some, owes))
+
+-- and lives
+pub reserves_alive : (o : OpenerState) (work : Work) (s : ShareState) → 0 < s.reserved s.who → Owes o work s → is_ended work ≡ false
+reserves_alive o Idle s some owes = refl
+reserves_alive o (Runs c at) s some owes = refl
+reserves_alive o Ended s some owes = absurd (omega (arith, some, owes))
 
 -- after the lines there is room
 abbrev HasRoom : List Part → Type 0

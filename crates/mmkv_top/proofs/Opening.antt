@@ -15,7 +15,7 @@ use Rattle.opener.specs.declared.calls.Step.TheVariants as step
 use Rattle.opener.specs.declared.work.Work.TheVariants.{Idle}
 use Rattle.region_words.specs.Local.{Local, account_of, after_admission, kept_after}
 use Rattle.region_words.specs.Past.{has_died, locks_after}
-use Rattle.region_words.specs.Region.{Region}
+use Rattle.region_words.specs.Region.{IsRegion, Region}
 use Rattle.region_words.specs.Share.{lock_of, most_events}
 use Rattle.region_words.specs.declared.account.Account.{Account}
 use Rattle.region_words.proofs.Accounts.{other_account}
@@ -31,11 +31,11 @@ use Rattle.mmkv_top.specs.State.{PlayState, play_state}
 use Rattle.mmkv_top.specs.declared.halt.Halt.TheVariants as halt
 use Rattle.script_lang.specs.Parts.{Part, Running, answers_in, outcomes_of, past_of, running, strategies}
 use Rattle.script_lang.specs.Played.{IsTooFull, MetNoPlace, Stock, drawn, is_same, stocked}
-use Rattle.mmkv_top.specs.Progress.{AreEarlier, FollowsWork, HasHalted, HasMarked, HasStored, IsAt, IsNobody, IsOpenTo, IsOpened, IsUnopened, TakesOne}
+use Rattle.mmkv_top.specs.Progress.{AreEarlier, FollowsWork, HasHalted, HasMarked, HasStored, IsAt, IsLeft, IsNobody, IsOpenTo, IsOpened, IsUnopened, TakesOne}
 use Rattle.mmkv_top.proofs.Answering.{nothing_answered}
-use Rattle.mmkv_top.proofs.NoPlaces.{Reserver, no_place, opener_there, writing}
+use Rattle.mmkv_top.proofs.NoPlaces.{Reserver, no_place, opener_there, reserves_alive, writing}
 use Rattle.mmkv_top.specs.Looking.{IsKnown}
-use Rattle.mmkv_top.proofs.Others.{opened_still, unopened_still}
+use Rattle.mmkv_top.proofs.Others.{Spares, left_other, living_left, quiet_spares, unopened_other}
 use Rattle.mmkv_top.proofs.Beginning.{quiet_taken}
 
 -- A handler was drawn from the stock, and one more opener let in.
@@ -109,9 +109,9 @@ module _ (stock left left' : Stock) (start : Region) (parts : List Part) (p : Pl
   writer v =
       let there = opener_there p.world.openers (v.number - 1) (omega (arith, v.least, v.most, at.count)) in
       let is : v.number - 1 + 1 ≡ v.number = omega (arith, v.least) in
-      let op : IsOpened start parts v.number there.0 = subst (λ w. IsOpened start parts w there.0) is (at.openers (v.number - 1) there.0 there.1) in
+      let left_so : IsLeft start parts v.number there.0 = subst (λ w. IsLeft start parts w there.0) is (at.openers (v.number - 1) there.0 there.1) in
       let tied : Tied there.0 (share_of p.world.region v.number) = subst (λ w. Tied there.0 (share_of p.world.region w)) is (before.each (v.number - 1) there.0 there.1).tied in
-      let runs = writing there.0 there.0.work (running v.number parts) (share_of p.world.region v.number) v.some tied.owes tied.at op.follows in
+      let runs = writing there.0 there.0.work (running v.number parts) (share_of p.world.region v.number) v.some tied.owes tied.at (left_so.alive (reserves_alive there.0 there.0.work (share_of p.world.region v.number) v.some tied.owes)).follows in
       (v.number, runs.0, runs.1, runs.2, subst (λ past. lock_of (locks_after past) v.number ≡ Some Exclusive) at.past v.holds)
 
   no_place_left : most_events < length p.world.region.past + kept_after p.world.region + 1 → MetNoPlace parts
@@ -142,11 +142,14 @@ module _ (stock left left' : Stock) (start : Region) (parts : List Part) (p : Pl
     count_now : length q.world.openers ≡ length (strategies parts) + 1
     count_now = ap length opens.openers ∙ length-append p.world.openers (new_opener who ∷ []) ∙ ap (λ k. k + 1) at.count
 
+    spares : (v : ℕ) → Spares start parts (record { line = Some (Open strategy); made = []; outcome = None }) v
+    spares v = quiet_spares start parts (Some (Open strategy)) v refl refl refl refl
+
     fresh : IsUnopened parts (length (strategies parts) + 1)
     fresh = at.unopened (length (strategies parts) + 1) (inr (omega arith))
 
     still_fresh : IsUnopened (record { line = Some (Open strategy); made = []; outcome = None } ∷ parts) (length (strategies parts) + 1)
-    still_fresh = unopened_still start parts (Some (Open strategy)) (length (strategies parts) + 1) refl refl refl fresh
+    still_fresh = unopened_other start parts _ (length (strategies parts) + 1) (spares (length (strategies parts) + 1)) fresh
 
     opened_now : IsOpened start (record { line = Some (Open strategy); made = []; outcome = None } ∷ parts) (length (strategies parts) + 1) (new_opener who)
     opened_now =
@@ -163,14 +166,14 @@ module _ (stock left left' : Stock) (start : Region) (parts : List Part) (p : Pl
           looking = λ apart. subst (λ k. IsKnown start k None) (sym still_fresh.keeps) refl;
         }
 
-    each_opened : (i : ℕ) (x : OpenerState) → slice_get q.world.openers i ≡ Some x → IsOpened start (record { line = Some (Open strategy); made = []; outcome = None } ∷ parts) (i + 1) x
+    each_opened : (i : ℕ) (x : OpenerState) → slice_get q.world.openers i ≡ Some x → IsLeft start (record { line = Some (Open strategy); made = []; outcome = None } ∷ parts) (i + 1) x
     each_opened i x is = go (pushed_is p.world.openers (new_opener who) i x (subst (λ l. slice_get l i ≡ Some x) opens.openers is))
       where
-        go : (slice_get p.world.openers i ≡ Some x) ⊎ ((i ≡ length p.world.openers) × (x ≡ new_opener who)) → IsOpened start grown (i + 1) x
-        go (inl was) = opened_still start parts (Some (Open strategy)) (i + 1) refl refl refl x (at.openers i x was)
+        go : (slice_get p.world.openers i ≡ Some x) ⊎ ((i ≡ length p.world.openers) × (x ≡ new_opener who)) → IsLeft start grown (i + 1) x
+        go (inl was) = left_other start parts _ (i + 1) (spares (i + 1)) x (at.openers i x was)
         go (inr (last, new)) =
             let place : length (strategies parts) + 1 ≡ i + 1 = omega (arith, last, at.count) in
-            subst (λ w. IsOpened start grown w x) place (subst (IsOpened start grown (length (strategies parts) + 1)) (sym new) opened_now)
+            subst (λ w. IsLeft start grown w x) place (subst (IsLeft start grown (length (strategies parts) + 1)) (sym new) (living_left start grown (length (strategies parts) + 1) (new_opener who) opened_now))
 
     -- it was let in
     let_in : (account_of q.world.region.accounts who).admitted ≡ true
@@ -217,11 +220,12 @@ module _ (stock left left' : Stock) (start : Region) (parts : List Part) (p : Pl
           may = ((omega (arith, opens.least, at.count), enough), (refl, refl));
           playable = tt;
           stepless = λ w n e. absurd cc;
+          deathless = λ w bits e. absurd cc;
           count = count_now ∙ sym more;
           open_to = subst (λ k. IsOpenTo k q.world.region) (sym more) open_now;
           drawn = λ s. omega (arith, both_more strategy s (strategies parts), drew s, at.drawn s);
           openers = each_opened;
-          unopened = λ v is. unopened_still start parts (Some (Open strategy)) v refl refl refl (at.unopened v (nobody v (subst (λ k. IsNobody k v) more is)));
+          unopened = λ v is. unopened_other start parts _ v (spares v) (at.unopened v (nobody v (subst (λ k. IsNobody k v) more is)));
         })
       where
         nobody : (v : ℕ) → IsNobody (length (strategies parts) + 1) v → IsNobody (length (strategies parts)) v
@@ -243,22 +247,24 @@ nobody_answered (a ∷ answers) theirs = let both = All-head (λ (b : Answer). (
 pub none_answered : (w : WorldState) → IsSound w → w.openers ≡ [] → w.answers ≡ []
 none_answered w sound none = nobody_answered w.answers (subst (λ n. All (λ a. (1 ≤ a.who) × (a.who ≤ n)) w.answers) (ap length none) sound.theirs)
 
-pub no_lines : (stock : Stock) (w : WorldState) → IsSound w → w.openers ≡ [] → w.region.failing.listed ≡ [] → IsAt stock stock w.region.start [] (play_state w [])
-no_lines stock w sound none listed =
+pub no_lines : (stock : Stock) (w : WorldState) → IsRegion w.region.start → IsSound w → w.openers ≡ [] → w.region.failing.listed ≡ [] → IsAt stock stock w.region.start [] (play_state w [])
+no_lines stock w region sound none listed =
     record {
+      region = region;
       start_is = refl;
       past = nothing_made w.region w.openers w.answers none sound;
       answers = none_answered w sound none;
       text = refl;
       steady = listed;
-      live = tt;
       each = tt;
       playable = tt;
       held = tt;
       in_time = tt;
       reasoned = tt;
+      torn = tt;
       roomy = tt;
       histories = tt;
+      shown = tt;
       by_words = tt;
       answered = nothing_answered w.region.start;
       within = λ k d lt. absurd (omega (arith, lt));

@@ -1,4 +1,4 @@
--- A call is stopped for an image that isn't whole only where checksums don't tell payloads apart, or the start shows none.
+-- A call is stopped for an image that isn't whole only where an opener has died, checksums don't tell payloads apart, or the start shows none.
 use Rattle.std.proofs.Common.{◌≡◌, ◌≢◌, ℕ, List, [], ◌++◌, refl, sym, ap, ◌∙◌, inl, inr, subst, append_assoc}
 use Rattle.std.specs.Prelude.{Option, Some, None, Ok, Err, IfSome, IsOk, Result}
 use Rattle.meta_record.specs.declared.record.RecordFault.{RecordFault}
@@ -15,7 +15,7 @@ use Rattle.opener.specs.declared.work.Work.TheVariants.{Runs}
 use Rattle.region_words.specs.Apart.{Apart}
 use Rattle.region_words.specs.Local.{Seated, seat_state}
 use Rattle.region_words.specs.Outcome.{AtRest}
-use Rattle.region_words.specs.Past.{NoneDies, region_after}
+use Rattle.region_words.specs.Past.{region_after}
 use Rattle.region_words.specs.Region.{Region, IsAccepted, shown}
 use Rattle.region_words.specs.declared.event.Event.{Event}
 use Rattle.region_words.proofs.Regions.{lawful_accepted}
@@ -55,7 +55,7 @@ not_refused (Ok u) why ok is = absurd cc
 not_refused (Err fault) why ok is = absurd cc
 
 -- What a step finds, or comes to.
-module _ (o : OpenerState) (s t : Seated) (tied : Tied o (seat_state t)) (ok : IsAccepted t.region.start) (live : NoneDies t.region.past) where
+module _ (o : OpenerState) (s t : Seated) (tied : Tied o (seat_state t)) (ok : IsAccepted t.region.start) where
   saw_none : (seen : Shown) → shown (region_after t.region.start t.region.past) ≡ seen → ((n : ℕ) → seen ≢ Whole n) → (Apart t.region.start t.region.past → AtRest t.region.start t.region.past) →
       SawNoImage t.region.start t.region.past
   saw_none seen shows broken calm =
@@ -64,7 +64,7 @@ module _ (o : OpenerState) (s t : Seated) (tied : Tied o (seat_state t)) (ok : I
         earlier = t.region.past;
         is = refl;
         not_whole = λ n whole. broken n (sym shows ∙ whole);
-        apart = λ n began apart.
+        apart = λ n began live apart.
             let rest = calm apart in
             let whole = whole_at_rest t.region.start tied.told.agrees.region ok t.region.past rest.0 n tied.told.agrees.lawful apart live rest.1 began in
             broken whole.0 (sym shows ∙ whole.1);
@@ -92,6 +92,6 @@ module _ (o : OpenerState) (s t : Seated) (tied : Tied o (seat_state t)) (ok : I
   stopped_saw c at (Some found) why steady saw (inr (fault, fails)) = absurd (fails.due.0 steady)
 
 -- it goes on, and has found a stop or not
-pub going_saw : (o : OpenerState) (s t : Seated) (c : Call) (at : Stage) → Tied o (seat_state t) → IsAccepted t.region.start → NoneDies t.region.past → s.region.failing.listed ≡ [] →
+pub going_saw : (o : OpenerState) (s t : Seated) (c : Call) (at : Stage) → Tied o (seat_state t) → IsAccepted t.region.start → s.region.failing.listed ≡ [] →
     IfSome (stop_found o.work) (λ why. HasReason (Runs c at) why (seat_state s) (seat_state t)) → FoundSaw o.work t.region.start t.region.past
-going_saw o s t c at tied ok live steady h = if_some (stop_found o.work) (λ why is reason. stop_saw o s t tied ok live c at why steady reason) h
+going_saw o s t c at tied ok steady h = if_some (stop_found o.work) (λ why is reason. stop_saw o s t tied ok c at why steady reason) h

@@ -26,7 +26,7 @@ use Rattle.opener.specs.declared.work.Work.TheVariants.{Idle, Ended, Runs}
 use Rattle.region_words.specs.Answered.{is_store}
 use Rattle.region_words.specs.Lawful.{Lawful}
 use Rattle.region_words.specs.Region.{Region, IsAccepted, file_size}
-use Rattle.region_words.specs.Past.{AreSteps, NoneDies, changes_of, region_after, locks_after, has_died, is_death}
+use Rattle.region_words.specs.Past.{AreSteps, changes_of, region_after, locks_after, has_died, is_death}
 use Rattle.region_words.specs.Local.{Seated, seat_state, account_of, lock_after}
 use Rattle.region_words.specs.Share.{ShareState, made_by}
 use Rattle.region_words.specs.Told.{History}
@@ -98,11 +98,6 @@ own_steps who (what ∷ own) past h = (
   (refl, no_death (who == who) (is_death what) (eq-eqb who who refl) (left_false ((who == who) && is_death what) (has_died (made_by who own ++ past) who) h)),
   own_steps who own past (right_false ((who == who) && is_death what) (has_died (made_by who own ++ past) who) h),
 )
-
--- and where an opener lives on nobody has died
-live_join : (who : ℕ) (own past : List Event) → AreSteps who own → NoneDies past → NoneDies (own ++ past)
-live_join who [] past own live = live
-live_join who (e ∷ own) past made live = (made.0.1, live_join who own past made.1 live)
 
 steps_join : (who : ℕ) (xs ys : List Event) → AreSteps who xs → AreSteps who ys → AreSteps who (xs ++ ys)
 steps_join who [] ys h k = k
@@ -399,13 +394,13 @@ over_work who P work past held (Some r) step.Idle o t idle before going came fal
 over_work who P work past held (Some r) step.Again o t idle before going came falls = absurd came
 
 -- what a step saw
-module _ (who : ℕ) (s t : Seated) (o o' : OpenerState) (tied : Tied o' (seat_state t)) (ok : IsAccepted t.region.start) (live : NoneDies t.region.past) (steady : s.region.failing.listed ≡ []) where
+module _ (who : ℕ) (s t : Seated) (o o' : OpenerState) (tied : Tied o' (seat_state t)) (ok : IsAccepted t.region.start) (steady : s.region.failing.listed ≡ []) where
   going_finds : (work : Work) (result : Step) → result ≡ step.Going → KeepsWork (record o { work = work }) result o' → HasCause work result o'.work (seat_state s) (seat_state t) →
       FoundSaw o'.work t.region.start t.region.past
   going_finds Idle result going keeps cause = let never : step.Going ≡ step.Idle = sym going ∙ keeps.0 in absurd cc
   going_finds Ended result going keeps cause = let never : step.Going ≡ step.Idle = sym going ∙ keeps.0 in absurd cc
   going_finds (Runs c at) result going keeps cause =
-      going_saw o' s t c at tied ok live steady (subst (λ x. HasCause (Runs c at) x o'.work (seat_state s) (seat_state t)) going cause)
+      going_saw o' s t c at tied ok steady (subst (λ x. HasCause (Runs c at) x o'.work (seat_state s) (seat_state t)) going cause)
 
   step_saw : (work : Work) (held : ℕ) (r : Option Running) (result : Step) → FoundSaw work t.region.start t.region.past → CameTo who t.region.past held r result o' →
       KeepsWork (record o { work = work }) result o' → HasCause work result o'.work (seat_state s) (seat_state t) → Falls work result o'.work (seat_state t) →
@@ -425,7 +420,7 @@ module _ (who : ℕ) (s t : Seated) (o o' : OpenerState) (tied : Tied o' (seat_s
   step_stopped_saw Idle own made held (Some r) (step.Stopped why) saw follows came cause = absurd follows
   step_stopped_saw Ended own made held (Some r) (step.Stopped why) saw follows came cause = absurd follows
   step_stopped_saw (Runs c at) own made held (Some r) (step.Stopped why) saw follows came cause =
-      stopped_saw o' s t tied ok live c at (stop_found (Runs c at)) why steady saw cause
+      stopped_saw o' s t tied ok c at (stop_found (Runs c at)) why steady saw cause
 
 saw_moved : (s t : Seated) → MakesOne (seat_state s) (seat_state t) → (work : Work) → FoundSaw work s.region.start s.region.past → FoundSaw work t.region.start t.region.past
 saw_moved s t makes work f =
@@ -516,9 +511,6 @@ module _ (who opened : ℕ) (start : Region) (past : List Event) (held : ℕ) (b
   own_are : AreSteps who own
   own_are = own_steps who m.own s.region.past alive
 
-  live : NoneDies t.region.past
-  live = subst NoneDies (sym grown) (live_join who own s.region.past own_are st.live)
-
   begun_now : HasBegun o.work t.region.past
   begun_now = begun_later s t steps.makes o.work (begun_of o s tied)
 
@@ -592,10 +584,9 @@ module _ (who opened : ℕ) (start : Region) (past : List Event) (held : ℕ) (b
         fewer = step_fewer s t steps.makes first o.work o'.work n result tied'.told.agrees.lawful steps.falls st.fewer;
         found = step_found who s t refl o o' o.work result (moved_later who s t steps.makes o.work quiet st.found) begun_now steps.call steps.cause steps.falls;
         stopped = step_stopped who s t refl o o' o.work result made before (moved_later who s t steps.makes o.work quiet st.found) begun_now st.came.0 steps.call steps.cause;
-        live = live;
         open_to = open_now;
-        saw = step_saw who s t o o' tied' sound.accepted live st.steady o.work held goes_by result (saw_moved s t steps.makes o.work st.saw) came steps.call steps.cause steps.falls;
-        stopped_saw = step_stopped_saw who s t o o' tied' sound.accepted live st.steady o.work own made held before result (saw_moved s t steps.makes o.work st.saw) st.came.0 came steps.cause;
+        saw = step_saw who s t o o' tied' sound.accepted st.steady o.work held goes_by result (saw_moved s t steps.makes o.work st.saw) came steps.call steps.cause steps.falls;
+        stopped_saw = step_stopped_saw who s t o o' tied' sound.accepted st.steady o.work own made held before result (saw_moved s t steps.makes o.work st.saw) st.came.0 came steps.cause;
         unfull = over_work who IsUnfull o.work t.region.past held goes_by result o' (seat_state t) (λ e. absurd cc) st.unfull unfull came steps.falls;
         stored = subst (HasStored result o'.work) (going_twice own made before)
             (step_stored who s t o.work o'.work result (option_map (going_on made) before) own st.came.0 adds (λ whats is. stores_made who s t refl steps.makes whats is) st.stored);
@@ -628,7 +619,6 @@ at_most who opened start past held before first n count result made o s below al
       fewer = go result all st.fewer;
       found = st.found;
       stopped = st.stopped;
-      live = st.live;
       open_to = st.open_to;
       saw = st.saw;
       stopped_saw = st.stopped_saw;

@@ -14,7 +14,7 @@ use Rattle.opener.specs.declared.calls.Stop.{Stop}
 use Rattle.opener.specs.declared.calls.Stop.TheVariants as stop
 use Rattle.region_words.specs.Apart.{Apart}
 use Rattle.region_words.specs.Lawful.{Lawful}
-use Rattle.region_words.specs.Past.{NoneDies, changes_of, has_died, region_after}
+use Rattle.region_words.specs.Past.{changes_of, has_died, region_after}
 use Rattle.region_words.specs.Region.{Region, file_size}
 use Rattle.region_words.specs.Share.{most_events}
 use Rattle.region_words.specs.declared.event.Event.{Event}
@@ -30,19 +30,19 @@ use Rattle.std.proofs.lemmas.Bool.{cases_lt}
 use Rattle.std.proofs.lemmas.List.Elements.{All-nil}
 use Rattle.change_log.specs.declared.change.Change.{Change}
 use Rattle.lock_rules.specs.declared.table.LockKind.TheVariants.{Exclusive}
-use Rattle.opener.specs.Opener.{Tied}
-use Rattle.region_words.specs.Local.{lock_after}
+use Rattle.opener.specs.Opener.{Tied, is_ended}
+use Rattle.region_words.specs.Local.{account_of, lock_after}
 use Rattle.world.specs.World.{share_of}
 use Rattle.mmkv_top.proofs.Marking.{line_marked, line_marks, none_marked, own_marks}
-use Rattle.mmkv_top.proofs.Stepping.{follows_alive}
+use Rattle.mmkv_top.proofs.Stepping.{right_false}
 use Rattle.mmkv_top.specs.State.{PlayState}
 use Rattle.mmkv_top.specs.declared.halt.Halt.{Halt}
 use Rattle.mmkv_top.specs.declared.halt.Halt.TheVariants as halt
 use Rattle.script_lang.specs.Parts.{Part, answers_in, asked_of, going_on, holds_of, listed, lives as living, outcomes_of, past_of, running, Running, strategies}
 use Rattle.script_lang.specs.Journal.{AreAnswered, CanTake}
 use Rattle.script_lang.specs.Played.{MetFullJournal, MetNoImage, Stock, drawn, places_after, stocked}
-use Rattle.mmkv_top.specs.Progress.{AreEarlier, CameTo, FollowsWork, FoundIs, FoundSaw, HaltsBy, HasHalted, HasMarked, HasStored, IsAt, IsNobody, IsOpenTo, IsOpened, IsTextOf, IsUnopened, IsUnsaid, LeavesFewer, MetFull, Notes, SawNoImage, StopSaw, StoppedFull, StoppedIs, StoppedSaw, Stepped, Takes, TakesOne, Walks, seat_at}
-use Rattle.mmkv_top.proofs.Histories.{history_of}
+use Rattle.mmkv_top.specs.Progress.{AreEarlier, CameTo, FollowsWork, FoundIs, FoundSaw, HaltsBy, HasHalted, HasMarked, HasStored, IsAt, IsLeft, IsNobody, IsOpenTo, IsOpened, IsTextOf, IsUnopened, IsUnsaid, LeavesFewer, MetFull, Notes, SawNoImage, StopSaw, StoppedFull, StoppedIs, StoppedSaw, Stepped, Takes, TakesOne, Walks, seat_at}
+use Rattle.mmkv_top.proofs.Histories.{history_of, shown_of}
 use Rattle.mmkv_top.proofs.InTime.{in_time, line_bounded}
 use Rattle.mmkv_top.proofs.LineEnds.{LineEnds, Outcomes, answers_join, is_step_line, line_ends, listed_answers, outcome_is, own_outcome, said_stopped}
 use Rattle.mmkv_top.proofs.NoPlaces.{opener_there, roomy}
@@ -51,24 +51,15 @@ use Rattle.script_lang.proofs.Calls.{going_none, running_own, still_running}
 use Rattle.script_lang.proofs.Looks.{looks_own}
 use Rattle.mmkv_top.specs.Looking.{HasLooked, IsLooking}
 use Rattle.mmkv_top.proofs.LineLooks.{line_by_words, line_looking}
-use Rattle.mmkv_top.proofs.Others.{opened_other, unopened_other}
+use Rattle.mmkv_top.proofs.Others.{Spares, left_other, living_left, steps_spare, unopened_other}
 use Rattle.mmkv_top.proofs.Reasoning.{is_reasoned}
 use Rattle.mmkv_top.proofs.Storing.{line_stored}
 
--- nobody has died
-none_died : (past : List Event) (who : ℕ) → NoneDies past → has_died past who ≡ false
-none_died [] who live = refl
-none_died (e ∷ past) who live = ap (λ b. ((e.who == who) && b) || has_died past who) live.0 ∙ go (e.who == who) (none_died past who live.1)
-  where
-    go : (b : Bool) → has_died past who ≡ false → ((b && false) || has_died past who) ≡ false
-    go true h = h
-    go false h = h
-
 -- an opener within the world lives
-pub lives_in : (parts : List Part) (openers : List OpenerState) (who : ℕ) (o : OpenerState) → length openers ≡ length (strategies parts) → NoneDies (past_of parts) → Lives openers who o → IsTrue (living who parts)
-lives_in parts openers who o count live lives =
+pub lives_in : (parts : List Part) (openers : List OpenerState) (who : ℕ) (o : OpenerState) → length openers ≡ length (strategies parts) → has_died (past_of parts) who ≡ false → Lives openers who o → IsTrue (living who parts)
+lives_in parts openers who o count undead lives =
     go (nat_le 1 who) (nat_le who (length (strategies parts))) (has_died (past_of parts) who) (yes 1 who lives.numbered) (yes who (length (strategies parts)) (omega (arith, lives.numbered, count, within openers (who - 1) o lives.there)))
-    (none_died (past_of parts) who live)
+    undead
   where
     yes : (a b : ℕ) → a ≤ b → nat_le a b ≡ true
     yes a b le = grind (arith, nat_tests)
@@ -84,16 +75,27 @@ lives_in parts openers who o count live lives =
     go true false d p q r = absurd cc
     go false b d p q r = absurd cc
 
+-- and hasn't died
+pub alive_in : (stock left : Stock) (start : Region) (parts : List Part) (p : PlayState) (who : ℕ) (o : OpenerState) → IsSound p.world → IsAt stock left start parts p → Lives p.world.openers who o → IsTrue (living who parts)
+alive_in stock left start parts p who o sound at lives = lives_in parts p.world.openers who o at.count undead lives
+  where
+    tied : Tied o (share_of p.world.region who)
+    tied = let is : (who - 1) + 1 ≡ who = omega (arith, lives.numbered) in subst (λ w. Tied o (share_of p.world.region w)) is (sound.each (who - 1) o lives.there).tied
+
+    undead : has_died (past_of parts) who ≡ false
+    undead = ap (λ past. has_died past who) (sym at.past) ∙ right_false (not (account_of p.world.region.accounts who).admitted) (has_died p.world.region.past who) (tied.ended ∙ lives.alive)
+
 -- the call of the line found no places
 met_journal : (who : ℕ) (start : Region) (parts : List Part) (count : ℕ) → MetFull who (length (strategies parts)) start (past_of parts) (running who parts) count → MetFullJournal start parts who count
 met_journal who start parts count f = record { call = f.call; runs = f.runs; made = f.made; few = f.few; own = f.own; asked = f.asked; asks = f.asks; full = f.full }
 
-abbrev IsRoomy : ℕ → List Event → Type 0
+-- there is room for the events and the places kept
+abbrev pub IsRoomy : ℕ → List Event → Type 0
 IsRoomy opened past = length past + places_after opened past ≤ most_events
 
 -- the opener of a number that lives is one that was opened
 pub opened_at : (stock left : Stock) (start : Region) (parts : List Part) (p : PlayState) (who : ℕ) (o : OpenerState) → IsAt stock left start parts p → Lives p.world.openers who o → IsOpened start parts who o
-opened_at stock left start parts p who o at lives = let is : (who - 1) + 1 ≡ who = omega (arith, lives.numbered) in subst (λ w. IsOpened start parts w o) is (at.openers (who - 1) o lives.there)
+opened_at stock left start parts p who o at lives = let is : (who - 1) + 1 ≡ who = omega (arith, lives.numbered) in subst (λ w. IsOpened start parts w o) is ((at.openers (who - 1) o lives.there).alive lives.alive)
 
 -- an opener with a hold has the lock for itself
 holds_lock : (stock left : Stock) (start : Region) (parts : List Part) (p : PlayState) → IsSound p.world → IsAt stock left start parts p → (who : ℕ) → 0 < holds_of who parts → lock_after (past_of parts) who ≡ Some Exclusive
@@ -102,15 +104,19 @@ holds_lock stock left start parts p sound at who some = go (cases_lt 0 who) (cas
     nobody : IsNobody (length (strategies parts)) who → lock_after (past_of parts) who ≡ Some Exclusive
     nobody is = absurd (omega (arith, some, (at.unopened who is).held))
 
+    holder : (o : OpenerState) → IsLeft start parts who o → Tied o (share_of p.world.region who) → (b : Bool) → is_ended o.work ≡ b → lock_after (past_of parts) who ≡ Some Exclusive
+    holder o left_so tied true dead = absurd (omega (arith, some, (left_so.dead dead).held))
+    holder o left_so tied false alive = ap (λ past. lock_after past who) (sym at.past) ∙ tied.holds ∙ holds_exclusive o o.work refl alive (omega (arith, some, (left_so.alive alive).holds))
+
     go : (0 < who) ⊎ (who ≤ 0) → (length (strategies parts) < who) ⊎ (who ≤ length (strategies parts)) → lock_after (past_of parts) who ≡ Some Exclusive
     go (inr none) most = nobody (inl (omega (arith, none)))
     go (inl least) (inl far) = nobody (inr far)
     go (inl least) (inr within) =
         let there = opener_there p.world.openers (who - 1) (omega (arith, least, within, at.count)) in
         let is : who - 1 + 1 ≡ who = omega (arith, least) in
-        let op : IsOpened start parts who there.0 = subst (λ w. IsOpened start parts w there.0) is (at.openers (who - 1) there.0 there.1) in
+        let left_so : IsLeft start parts who there.0 = subst (λ w. IsLeft start parts w there.0) is (at.openers (who - 1) there.0 there.1) in
         let tied : Tied there.0 (share_of p.world.region who) = subst (λ w. Tied there.0 (share_of p.world.region w)) is (sound.each (who - 1) there.0 there.1).tied in
-        ap (λ past. lock_after past who) (sym at.past) ∙ tied.holds ∙ holds_exclusive there.0 there.0.work refl (follows_alive there.0.work (running who parts) op.follows) (omega (arith, some, op.holds))
+        holder there.0 left_so tied (is_ended there.0.work) refl
 
 module _ (stock left : Stock) (start : Region) (parts : List Part) (p q : PlayState) (who count : ℕ) (o : OpenerState) (said : Moved)
     (at : IsAt stock left start parts p) (before : IsSound p.world) (lives : Lives p.world.openers who o) (op : IsOpened start parts who o) (sound : IsSound q.world)
@@ -191,25 +197,26 @@ module _ (stock left : Stock) (start : Region) (parts : List Part) (p q : PlaySt
               ended.outcome came ended.at (looks_now apart)));
         }
 
-    each_opened : (i : ℕ) (x : OpenerState) → slice_get q.world.openers i ≡ Some x → IsOpened start (record { line = Some (StepLine who count); made = walks.made; outcome = ended.outcome } ∷ parts) (i + 1) x
+    spares : (v : ℕ) → who ≢ v → Spares start parts (record { line = Some (StepLine who count); made = walks.made; outcome = ended.outcome }) v
+    spares v n = steps_spare start parts who v count walks.made ended.outcome n st.own (own_outcome who (past_of parts) walks.made (running who parts) ended.outcome ends.ends) lawful
+
+    each_opened : (i : ℕ) (x : OpenerState) → slice_get q.world.openers i ≡ Some x → IsLeft start (record { line = Some (StepLine who count); made = walks.made; outcome = ended.outcome } ∷ parts) (i + 1) x
     each_opened i x is = go (eqb_tells (who - 1) i)
       where
         there : slice_get (set p.world.openers (who - 1) walks.next) i ≡ Some x
         there = subst (λ l. slice_get l i ≡ Some x) walks.leaves.openers is
 
-        go : ((eqb (who - 1) i ≡ true) × (who - 1 ≡ i)) ⊎ ((eqb (who - 1) i ≡ false) × (who - 1 ≢ i)) → IsOpened start grown (i + 1) x
+        go : ((eqb (who - 1) i ≡ true) × (who - 1 ≡ i)) ⊎ ((eqb (who - 1) i ≡ false) × (who - 1 ≢ i)) → IsLeft start grown (i + 1) x
         go (inl same) =
             let x_is : x ≡ walks.next = set_is p.world.openers (who - 1) o walks.next x lives.there (subst (λ n. slice_get (set p.world.openers (who - 1) walks.next) n ≡ Some x) (sym same.1) there) in
             let own : who ≡ i + 1 = sym number ∙ ap (λ n. n + 1) same.1 in
-            subst (λ w. IsOpened start grown w x) own (subst (IsOpened start grown who) (sym x_is) opened_now)
+            subst (λ w. IsLeft start grown w x) own (subst (IsLeft start grown who) (sym x_is) (living_left start grown who walks.next opened_now))
         go (inr apart) =
             let n : who ≢ i + 1 = (λ e. apart.1 (omega (arith, e, number))) in
-            opened_other start parts who (i + 1) count walks.made ended.outcome n st.own (own_outcome who (past_of parts) walks.made (running who parts) ended.outcome ends.ends) x lawful
-            (at.openers i x (sym (set_elsewhere p.world.openers (who - 1) i walks.next apart.1) ∙ there))
+            left_other start parts _ (i + 1) (spares (i + 1) n) x (at.openers i x (sym (set_elsewhere p.world.openers (who - 1) i walks.next apart.1) ∙ there))
 
     nobody_else : (v : ℕ) → IsNobody (length (strategies parts)) v → IsUnopened (record { line = Some (StepLine who count); made = walks.made; outcome = ended.outcome } ∷ parts) v
-    nobody_else v is =
-        unopened_other start parts who v count walks.made ended.outcome (apart is) st.own (own_outcome who (past_of parts) walks.made (running who parts) ended.outcome ends.ends) (at.unopened v is)
+    nobody_else v is = unopened_other start parts _ v (spares v (apart is)) (at.unopened v is)
       where
         apart : IsNobody (length (strategies parts)) v → who ≢ v
         apart (inl none) e = absurd (omega (arith, inside, e, none))
@@ -234,17 +241,17 @@ module _ (stock left : Stock) (start : Region) (parts : List Part) (p q : PlaySt
       walks.made,
       ended.outcome,
       record {
+        region = at.region;
         start_is = st.start_is;
         past = st.past_is;
         answers = answers_now;
         text = text ∙ ap (λ l. l ++ more) at.text ∙ ap (λ l. flat_map outcome_line (outcomes_of parts) ++ l) ended.text_is
             ∙ sym (flat_map-append outcome_line (outcomes_of parts) (listed ended.outcome));
         steady = st.steady;
-        live = subst NoneDies st.past_is st.live;
         each = (
           at.each,
           (
-            lives_in parts p.world.openers who o at.count at.live lives,
+            alive_in stock left start parts p who o before at lives,
             is_step_line who (past_of parts) walks.made count (running who parts) ended.outcome st.few st.own st.idle ends.ends
                 (line_marks who all walks.made (holds_of who parts) (running who parts) walks.came walks.next ended.outcome came ended.at st.marked),
           ),
@@ -260,11 +267,13 @@ module _ (stock left : Stock) (start : Region) (parts : List Part) (p q : PlaySt
           is_reasoned who start (record { line = Some (StepLine who count); made = walks.made; outcome = ended.outcome }) parts walks.came ended.at
               (here (StoppedIs who walks.came (running who parts)) st.stopped),
         );
+        torn = (at.torn, λ w bits t is. absurd cc);
         roomy = (
           at.roomy,
           subst (λ n. IsRoomy n all) (sym (ap length same_strategies)) (subst (IsRoomy (length (strategies parts))) st.past_is (roomy q.world sound (length (strategies parts)) st.open_to (sym count_now))),
         );
         histories = (at.histories, history_of start grown q.world sound st.start_is st.past_is answers_now);
+        shown = (at.shown, shown_of start grown q.world at.region sound st.start_is st.past_is answers_now);
         by_words = (at.by_words, line_by_words who count (holds_of who parts) start parts walks.made walks.came walks.next ended.outcome came ended.at looks_now);
         answered = subst (AreAnswered start all) joined ends.answered;
         within = subst (AreEndedBy (length (changes_of all))) joined ends.within;
@@ -303,7 +312,7 @@ module _ (stock left : Stock) (start : Region) (parts : List Part) (p q : PlaySt
           record { call = r; runs = is; made = walks.made; few = st.few; own = st.own; later = w.later; earlier = w.earlier; is = w.is; not_whole = w.not_whole; apart = w.apart }
 
   can : CanTake stock parts (Some (StepLine who count))
-  can = (lives_in parts p.world.openers who o at.count at.live lives, tt)
+  can = (alive_in stock left start parts p who o before at lives, tt)
 
   -- a line whose last step has no text
   line_halted : (why : Halt) → HaltsBy said why → HasHalted stock start parts (Some (StepLine who count)) why
@@ -323,11 +332,11 @@ module _ (stock left : Stock) (start : Region) (parts : List Part) (p q : PlaySt
   takes_steps (Err why) notes err = line_halted why err
 
 -- a line that ends the play for want of places
-pub steps_halted : (stock left : Stock) (start : Region) (parts : List Part) (p : PlayState) (who count : ℕ) (o : OpenerState) (why : Halt) → IsAt stock left start parts p → Lives p.world.openers who o →
+pub steps_halted : (stock left : Stock) (start : Region) (parts : List Part) (p : PlayState) (who count : ℕ) (o : OpenerState) (why : Halt) → IsSound p.world → IsAt stock left start parts p → Lives p.world.openers who o →
     why ≡ halt.JournalFull → MetFull who (length (strategies parts)) start (past_of parts) (running who parts) count → HasHalted stock start parts (Some (StepLine who count)) why
-steps_halted stock left start parts p who count o why at lives is met =
+steps_halted stock left start parts p who count o why sound at lives is met =
     subst (HasHalted stock start parts (Some (StepLine who count))) (sym is)
-    (StepLine who count, refl, (lives_in parts p.world.openers who o at.count at.live lives, tt), met_journal who start parts count met)
+    (StepLine who count, refl, (alive_in stock left start parts p who o sound at lives, tt), met_journal who start parts count met)
 
 -- a line of steps begins here
 first_step : (stock left : Stock) (start : Region) (parts : List Part) (p : PlayState) (who : ℕ) (o : OpenerState) → IsSound p.world → IsAt stock left start parts p → Lives p.world.openers who o →
@@ -350,7 +359,6 @@ first_step stock left start parts p who o sound at lives =
       fewer = λ words fits. omega arith;
       found = back (FoundIs who o.work) op.found;
       stopped = tt;
-      live = subst NoneDies (sym at.past) at.live;
       open_to = at.open_to;
       saw = back (FoundSaw o.work) op.saw;
       stopped_saw = tt;
@@ -380,5 +388,5 @@ module _ (stock left : Stock) (start : Region) (parts : List Part) (p : PlayStat
       ((start : Region) (past : List Event) (held : ℕ) (before : Option Running) → Stepped who (length p.world.openers) start past held before o.work 0 step.Going [] o (seat_at who p.world.region) →
       MetFull who (length p.world.openers) start past before count) → HasHalted stock start parts (Some (StepLine who count)) why
   halts_line why is met =
-      steps_halted stock left start parts p who count o why at lives is
+      steps_halted stock left start parts p who count o why sound at lives is
       (subst (λ n. MetFull who n start (past_of parts) (running who parts) count) at.count (met start (past_of parts) (holds_of who parts) (running who parts) begins))

@@ -1,5 +1,5 @@
 -- How far a script has been played.
-use Rattle.std.specs.Prelude.{◌≡◌, ◌≢◌, ℕ, ◌*◌, ◌+◌, ◌-◌, ◌<◌, ◌≤◌, ◌⊎◌, Bool, List, [], ◌∷◌, ◌++◌, All, Option, Some, None, Result, Ok, Err, length, flat_map, slice_get, slice_set, IfSome, IsTrue, is_some, nat_le, option_map, codes, decimal, ⊤}
+use Rattle.std.specs.Prelude.{◌≡◌, ◌≢◌, ℕ, ◌*◌, ◌+◌, ◌-◌, ◌<◌, ◌≤◌, ◌⊎◌, Bool, List, [], ◌∷◌, ◌++◌, All, Option, Some, None, Result, Ok, Err, length, flat_map, slice_get, slice_set, IfSome, IsTrue, false, true, is_some, nat_le, option_map, codes, decimal, ⊤}
 use Rattle.change_log.specs.Settled.{AreEndedBy}
 use Rattle.change_log.specs.declared.call.Answer.{Answer}
 use Rattle.change_log.specs.declared.call.Call.{Call as Asked}
@@ -8,7 +8,7 @@ use Rattle.opener.specs.Adds.{AreMadeBy, AreStoredBy}
 use Rattle.opener.specs.Bound.{steps_left}
 use Rattle.opener.specs.Counted.{counted}
 use Rattle.opener.specs.Calls.{holds_after}
-use Rattle.opener.specs.Opener.{OnAnswer, IsAnswer, stop_found}
+use Rattle.opener.specs.Opener.{OnAnswer, IsAnswer, is_ended, stop_found}
 use Rattle.opener.specs.Settles.{answers_by}
 use Rattle.opener.specs.State.{OpenerState}
 use Rattle.opener.specs.declared.calls.Step.{Step}
@@ -22,7 +22,7 @@ use Rattle.opener.specs.declared.work.Work.{Work}
 use Rattle.opener.specs.declared.work.Work.TheVariants.{Idle, Runs}
 use Rattle.meta_record.specs.declared.shown.Shown.TheVariants.{Whole}
 use Rattle.region_words.specs.Apart.{Apart}
-use Rattle.region_words.specs.Region.{Region, file_size, shown}
+use Rattle.region_words.specs.Region.{IsRegion, Region, file_size, shown}
 use Rattle.region_words.specs.Past.{AreSteps, NoneDies, changes_of, region_after}
 use Rattle.region_words.specs.Local.{Local, Seated, account_of}
 use Rattle.region_words.specs.declared.event.Event.{Event}
@@ -44,10 +44,10 @@ use Rattle.mmkv_top.specs.State.{PlayState}
 use Rattle.mmkv_top.specs.Ending.{ending}
 use Rattle.mmkv_top.specs.declared.ending.Ending.{Ending}
 use Rattle.script_lang.specs.Parts.{Part, lines_of, past_of, outcomes_of, answers_in, strategies, holds_of, asked_of, locks_among, stores_among, Running, running, going_on}
-use Rattle.script_lang.specs.Played.{Stock, stocked, drawn, AreHeld, ArePlayed, AreReasoned, AreRoomy, MeetsFullJournal, MeetsNoImage, AsksFor, IsTooFull, IsAnsweredBy, IsBlockedBy, WasRefused, reason_said}
+use Rattle.script_lang.specs.Played.{Stock, stocked, drawn, AreHeld, ArePlayed, AreReasoned, AreRoomy, AreTorn, MeetsFullJournal, MeetsNoImage, AsksFor, IsTooFull, IsAnsweredBy, IsBlockedBy, WasRefused, reason_said}
 use Rattle.script_lang.specs.Kept.{ReadByWords, kept_of, looked, looks_of}
 use Rattle.script_lang.specs.Script.{IsWithin, AreLines}
-use Rattle.script_lang.specs.Journal.{AreAnswered, AreHistories, AreInTime, ArePlayable, CanTake, IsFirstRefused, IsHalted, IsRefusedIn}
+use Rattle.script_lang.specs.Journal.{AreAnswered, AreHistories, AreInTime, ArePlayable, CanTake, IsFirstRefused, IsHalted, IsRefusedIn, ShowAtRest}
 use Rattle.mmkv_top.specs.Looking.{HasLooked, IsLooking}
 use Rattle.mmkv_top.specs.Play.{not_yet}
 
@@ -94,13 +94,14 @@ abbrev pub StoppedIs : ℕ → Step → Option Running → Region → List Event
 StoppedIs who (step.Stopped why) (Some r) start past = StopHolds who why r.call r.now (length (changes_of r.past)) start past
 StoppedIs who _ before start past = ⊤
 
--- At an earlier moment the region showed no whole image. Where the start shows one, checksums don't tell payloads apart there.
+-- At an earlier moment the region showed no whole image. Where the start shows one, an opener had died, or checksums don't tell payloads apart
+-- there.
 pub record SawNoImage (start : Region) (past : List Event) : Type 0 where
   pub later : List Event
   pub earlier : List Event
   pub is : later ++ earlier ≡ past
   pub not_whole : (n : ℕ) → shown (region_after start earlier) ≢ Whole n
-  pub apart : (n : ℕ) → shown start ≡ Whole n → Apart start earlier → ⊥
+  pub apart : (n : ℕ) → shown start ≡ Whole n → NoneDies earlier → Apart start earlier → ⊥
 
 -- what a stop tells of the region: the record of an accepted region is never refused, and no call fails
 abbrev pub StopSaw : Stop → Region → List Event → Type 0
@@ -172,7 +173,6 @@ pub record Stepped (who opened : ℕ) (start : Region) (past : List Event) (held
   pub fewer : LeavesFewer last first o.work count (file_size (region_after s.region.start s.region.past))
   pub found : FoundIs who o.work s.region.start s.region.past
   pub stopped : StoppedIs who last before s.region.start s.region.past
-  pub live : NoneDies s.region.past
   pub open_to : IsOpenTo opened s.region
   pub saw : FoundSaw o.work s.region.start s.region.past
   pub stopped_saw : StoppedSaw last s.region.start s.region.past
@@ -251,7 +251,7 @@ abbrev pub IsBounded : Work → ℕ → ℕ → Type 0
 IsBounded (Runs c stage) asked size = (words : ℕ) → size ≤ 4 * words → steps_left words (Runs c stage) + asked ≤ 6 * words + 100
 IsBounded _ asked size = ⊤
 
--- an opener after these lines
+-- a living opener after these lines
 pub record IsOpened (start : Region) (parts : List Part) (who : ℕ) (o : OpenerState) : Type 0 where
   pub follows : FollowsWork o.work (running who parts)
   pub holds : o.holds ≡ holds_of who parts
@@ -263,6 +263,16 @@ pub record IsOpened (start : Region) (parts : List Part) (who : ℕ) (o : Opener
   pub stored : HasStored step.Going o.work (running who parts)
   pub marked : HasMarked who step.Going o.work (running who parts)
   pub looking : Apart start (past_of parts) → IsLooking start (kept_of who parts) (looks_of who parts) o.image o.work (running who parts)
+
+-- an opener that died runs nothing and holds nothing
+pub record IsGone (parts : List Part) (who : ℕ) : Type 0 where
+  pub idle : running who parts ≡ None
+  pub held : holds_of who parts ≡ 0
+
+-- an opener after these lines, be it alive or dead
+pub record IsLeft (start : Region) (parts : List Part) (who : ℕ) (o : OpenerState) : Type 0 where
+  pub alive : is_ended o.work ≡ false → IsOpened start parts who o
+  pub dead : is_ended o.work ≡ true → IsGone parts who
 
 -- so many openers were opened, and none has this number
 abbrev pub IsNobody : ℕ → ℕ → Type 0
@@ -276,26 +286,28 @@ pub record IsUnopened (parts : List Part) (who : ℕ) : Type 0 where
 
 -- these parts were played, and so much is left of the stock
 pub record IsAt (stock left : Stock) (start : Region) (parts : List Part) (p : PlayState) : Type 0 where
+  pub region : IsRegion start
   pub start_is : p.world.region.start ≡ start
   pub past : p.world.region.past ≡ past_of parts
   pub answers : p.world.answers ≡ answers_in (outcomes_of parts)
   pub text : p.text ≡ flat_map outcome_line (outcomes_of parts)
   pub steady : p.world.region.failing.listed ≡ []
-  pub live : NoneDies (past_of parts)
   pub each : ArePlayed stock parts
   pub playable : ArePlayable parts
   pub in_time : AreInTime start parts
   pub reasoned : AreReasoned start parts
+  pub torn : AreTorn start parts
   pub held : AreHeld parts
   pub roomy : AreRoomy parts
   pub histories : AreHistories start parts
+  pub shown : ShowAtRest start parts
   pub by_words : ReadByWords start parts
   pub answered : AreAnswered start (past_of parts) (answers_in (outcomes_of parts))
   pub within : AreEndedBy (length (changes_of (past_of parts))) (answers_in (outcomes_of parts))
   pub count : length p.world.openers ≡ length (strategies parts)
   pub open_to : IsOpenTo (length (strategies parts)) p.world.region
   pub drawn : (s : Strategy) → stocked left s + drawn s (strategies parts) ≡ stocked stock s
-  pub openers : (i : ℕ) (o : OpenerState) → slice_get p.world.openers i ≡ Some o → IsOpened start parts (i + 1) o
+  pub openers : (i : ℕ) (o : OpenerState) → slice_get p.world.openers i ≡ Some o → IsLeft start parts (i + 1) o
   pub unopened : (who : ℕ) → IsNobody (length (strategies parts)) who → IsUnopened parts who
 
 -- a line was taken

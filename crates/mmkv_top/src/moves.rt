@@ -22,7 +22,7 @@ use std::alloc::Global;
 use std::mem;
 use world::{Moved, World};
 
-/// Does what a line names. So far no opener dies.
+/// Does what a line names. A line that has the next call made belongs to openers that run by themselves.
 pub(crate) fn take(
     alloc: Global,
     world: &mut World,
@@ -43,7 +43,8 @@ pub(crate) fn take(
         Some(Line::Open(strategy)) => open(world, handlers, strategy),
         Some(Line::Begin { who, now, call }) => begin(world, who, now, call),
         Some(Line::Step { who, count }) => step(alloc, world, text, who, count),
-        Some(Line::Die { .. } | Line::Next { .. }) => Err(Halt::Refused),
+        Some(Line::Die { who, torn }) => die(world, who, torn),
+        Some(Line::Next { .. }) => Err(Halt::Refused),
     }
 }
 
@@ -101,6 +102,20 @@ fn step(
     match steps(world, who, count) {
         Ok(last) => note(alloc, world, who, last, text),
         Err(why) => Err(why),
+    }
+}
+
+fn die(world: &mut World, who: u32, torn: Option<u32>) -> Result<(), Halt>
+    requires sound { IsSound world.old.core }
+    ensures sound { IsSound world.new.core }
+    ensures moved { CameFrom world.old.core world.new.core }
+    ensures taken { (stock left : Stock) (start : Region) (parts : List Part) (text : List ℕ) → IsAt stock left start parts (play_state world.old.core text) →
+        Takes stock left start parts (Some (Line.Die who torn)) (play_state world.new.core text) result }
+{
+    if world.die(who, torn) {
+        Ok(())
+    } else {
+        Err(Halt::Refused)
     }
 }
 

@@ -241,6 +241,7 @@ fn play_lines(
     ensures played { IfOk result (PlaysOn cut (stock_of handlers.old) world.old.core.region.start script.now world.new.core) }
     ensures statuses { IfOk result (λ e. e.status ≢ 8) }
 {
+    world.region().journal();
     if cut {
         play_cut(alloc, world, handlers, script)
     } else {

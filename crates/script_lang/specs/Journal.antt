@@ -3,6 +3,7 @@ use Rattle.std.specs.Prelude.{◌≡◌, ℕ, ◌+◌, ◌*◌, ◌<◌, ◌≤�
 use Rattle.change_log.specs.History.{IsPlaced, IsMade, Legal}
 use Rattle.change_log.specs.declared.call.Answer.{Answer}
 use Rattle.region_words.specs.Region.{Region, IsAccepted, base, file_size}
+use Rattle.region_words.specs.Outcome.{AtRest, ShowsHistory}
 use Rattle.region_words.specs.Past.{region_after, changes_of}
 use Rattle.region_words.specs.Apart.{Apart}
 use Rattle.region_words.specs.Lawful.{Lawful}
@@ -13,18 +14,18 @@ use Rattle.script_lang.specs.declared.line.Line.TheVariants.{Open, Begin, Step, 
 use Rattle.script_lang.specs.Lines.{IsLine}
 use Rattle.script_lang.specs.Script.{AreLines, IsWithin}
 use Rattle.script_lang.specs.Parts.{Part, lines_of, past_of, outcomes_of, answers_in, Running, running, asked_of}
-use Rattle.script_lang.specs.Played.{Stock, MayCome, AreHeld, ArePlayed, AreReasoned, AreRoomy}
+use Rattle.script_lang.specs.Played.{Stock, MayCome, AreHeld, ArePlayed, AreReasoned, AreRoomy, AreTorn}
 use Rattle.script_lang.specs.Kept.{ReadByWords}
 
--- so far no opener dies
+-- a line of openers that are stepped: none has its next call made for it
 abbrev pub IsPlayable : Line → Type 0
 IsPlayable (Open strategy) = ⊤
 IsPlayable (Begin who now call) = ⊤
 IsPlayable (Step who count) = ⊤
-IsPlayable (Die who bits) = ⊥
+IsPlayable (Die who bits) = ⊤
 IsPlayable (Next who now call) = ⊥
 
--- each line is one of those that are taken so far
+-- each line is one of those, or names nothing
 abbrev pub IsPlayableLine : Option Line → Type 0
 IsPlayableLine None = ⊤
 IsPlayableLine (Some l) = IsPlayable l
@@ -66,18 +67,30 @@ abbrev pub AreHistories : Region → List Part → Type 0
 AreHistories start [] = ⊤
 AreHistories start (p ∷ parts) = AreHistories start parts × IsHistory start (p ∷ parts)
 
+-- Where checksums tell payloads apart, and no row is under way, the region shows the map of the history so far, unless a death cut a rewrite
+-- and nothing was changed since. So it is after each death: the history has the change that was interrupted, or hasn't.
+abbrev pub ShowsAtRest : Region → List Part → Type 0
+ShowsAtRest start parts = Apart start (past_of parts) → AtRest start (past_of parts) → ShowsHistory start (past_of parts)
+
+-- after each line
+abbrev pub ShowAtRest : Region → List Part → Type 0
+ShowAtRest start [] = ⊤
+ShowAtRest start (p ∷ parts) = ShowAtRest start parts × ShowsAtRest start (p ∷ parts)
+
 -- A journal of these parts, which is lawful and in which the answers stand. After each line changes and answers are one legal history,
--- through each line the holds are kept, and just the reads that find their openers' words need no load of the region.
+-- whose map the region shows at rest; through each line the holds are kept, and just the reads that find their openers' words need no load of the region.
 pub record IsJournal (stock : Stock) (start : Region) (parts : List Part) : Type 0 where
   pub each : ArePlayed stock parts
   pub playable : ArePlayable parts
   pub lawful : Lawful start (past_of parts)
   pub in_time : AreInTime start parts
   pub reasoned : AreReasoned start parts
+  pub torn : AreTorn start parts
   pub held : AreHeld parts
   pub roomy : AreRoomy parts
   pub answers : AreAnswered start (past_of parts) (answers_in (outcomes_of parts))
   pub histories : AreHistories start parts
+  pub shown : ShowAtRest start parts
   pub by_words : ReadByWords start parts
 
 -- the lines before the one of this number are played; these texts are left

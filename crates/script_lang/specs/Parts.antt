@@ -64,10 +64,15 @@ abbrev pub held_after : Option Outcome → ℕ → ℕ → ℕ
 held_after (Some (Answered a)) who held = if a.who == who then holds_after a.call held else held
 held_after _ who held = held
 
+-- none after its death
+abbrev pub held_alive : Option Line → ℕ → ℕ → ℕ
+held_alive (Some (Die maker bits)) who held = if maker == who then 0 else held
+held_alive _ who held = held
+
 -- the holds that the opener hasn't released yet
 abbrev pub holds_of : ℕ → List Part → ℕ
 holds_of who [] = 0
-holds_of who (p ∷ parts) = held_after p.outcome who (holds_of who parts)
+holds_of who (p ∷ parts) = held_alive p.line who (held_after p.outcome who (holds_of who parts))
 
 abbrev pub is_lock : What → Bool
 is_lock (Lock kind) = true

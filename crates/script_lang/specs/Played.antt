@@ -11,6 +11,7 @@ use Rattle.lock_rules.specs.Locks.{IsLeastAgainst, MayTake}
 use Rattle.lock_rules.specs.declared.limits.TheConstants.{MOST_OPENERS}
 use Rattle.lock_rules.specs.declared.table.LockKind.{LockKind}
 use Rattle.lock_rules.specs.declared.table.LockKind.TheVariants.{Exclusive}
+use Rattle.meta_record.specs.Words.{torn, word_at}
 use Rattle.meta_record.specs.declared.shown.Shown.TheVariants.{Whole}
 use Rattle.opener.specs.Begins.{call_refusal}
 use Rattle.opener.specs.Calls.{is_write, kind_of}
@@ -21,12 +22,16 @@ use Rattle.opener.specs.declared.calls.Stop.{Stop}
 use Rattle.opener.specs.declared.calls.Stop.TheVariants as stop
 use Rattle.opener.specs.declared.plan.Plan.{Plan}
 use Rattle.region_words.specs.Apart.{Apart}
-use Rattle.region_words.specs.Lawful.{map_after}
-use Rattle.region_words.specs.Past.{AreSteps, changes_of, locks_after, region_after}
+use Rattle.region_words.specs.Lawful.{Between, Phase, Reaches, Within, map_after}
+use Rattle.region_words.specs.Past.{AreSteps, NoneDies, changes_of, locks_after, region_after}
 use Rattle.region_words.specs.Region.{Region, IsAccepted, shown}
-use Rattle.region_words.specs.Rows.{standing}
+use Rattle.region_words.specs.Coming.{IsComing}
+use Rattle.region_words.specs.Rows.{Row, standing}
 use Rattle.region_words.specs.Share.{lock_of, most_events, places_kept}
-use Rattle.region_words.specs.declared.event.What.TheVariants.{Died}
+use Rattle.region_words.specs.declared.event.Mark.{Mark}
+use Rattle.region_words.specs.declared.event.Side.TheVariants.{Data}
+use Rattle.region_words.specs.declared.event.What.{What}
+use Rattle.region_words.specs.declared.event.What.TheVariants.{Died, Store}
 use Rattle.region_words.specs.declared.event.Event.{Event}
 use Rattle.region_words.specs.declared.event.TornWord.{TornWord}
 use Rattle.script_lang.specs.declared.line.Line.{Line}
@@ -157,6 +162,29 @@ abbrev pub IsStepLine : List Event → ℕ → ℕ → Option Running → List E
 IsStepLine past who count None made outcome = (made ≡ []) × (outcome ≡ None)
 IsStepLine past who count (Some c) made outcome = StepsOf past who count c made outcome
 
+-- A death of this opener tears this word. Of its bytes those that its store would have changed are those of the bits, and the others stand.
+-- Where checksums tell payloads apart, that store was the next event of the opener's row.
+pub record Tears (start : Region) (past : List Event) (who bits : ℕ) (t : TornWord) : Type 0 where
+  pub new : ℕ
+  pub left : t.value ≡ torn (word_at (region_after start past).data_bytes t.word) new bits
+  pub next : Apart start past → (row : Row) × (mark : Mark) × (rest : List What) × IsComing start past who row (Store Data t.word new mark ∷ rest)
+
+-- the row under way, if any, doesn't store a payload word next
+abbrev pub StoresNoPayload : Phase → Type 0
+StoresNoPayload (Between room) = ⊤
+StoresNoPayload (Within row (Store Data word new mark ∷ rest)) = word ≡ 0
+StoresNoPayload (Within row rest) = ⊤
+
+-- A death of this opener tears nothing. So where it holds exclusive its row was not about to store a payload word.
+abbrev pub TearsNone : Region → List Event → ℕ → Type 0
+TearsNone start past who = lock_of (locks_after past) who ≡ Some Exclusive → Apart start past → (phase : Phase) × Reaches start past phase × StoresNoPayload phase
+
+-- what a death with these bits, if any, leaves torn
+abbrev pub MayLeave : Region → List Event → ℕ → Option ℕ → Option TornWord → Type 0
+MayLeave start past who None torn = torn ≡ None
+MayLeave start past who (Some bits) None = TearsNone start past who
+MayLeave start past who (Some bits) (Some t) = Tears start past who bits t
+
 -- what a line makes after these
 abbrev pub Makes : List Part → Line → List Event → Option Outcome → Type 0
 Makes parts (Step who count) made outcome = IsStepLine (past_of parts) who count (running who parts) made outcome
@@ -175,6 +203,16 @@ IsHeld p parts = (who : ℕ) → 0 < holds_of who parts → All (λ c. c.maker �
 abbrev pub AreHeld : List Part → Type 0
 AreHeld [] = ⊤
 AreHeld (p ∷ parts) = AreHeld parts × IsHeld p parts
+
+-- where the line is a death, it tears no word but so
+abbrev pub IsTorn : Region → Part → List Part → Type 0
+IsTorn start p parts =
+    (who : ℕ) (bits : Option ℕ) (t : Option TornWord) → p.line ≡ Some (Die who bits) → p.made ≡ record { who = who; what = Died t } ∷ [] → MayLeave start (past_of parts) who bits t
+
+-- each line's
+abbrev pub AreTorn : Region → List Part → Type 0
+AreTorn start [] = ⊤
+AreTorn start (p ∷ parts) = AreTorn start parts × IsTorn start p parts
 
 -- where the line's call was stopped, its write was refused for the reason that is printed
 abbrev pub IsReasoned : Region → Part → List Part → Type 0
@@ -233,7 +271,8 @@ MeetsFullJournal start parts (Open strategy) = MetNoPlace parts
 MeetsFullJournal start parts (Step who count) = MetFullJournal start parts who count
 MeetsFullJournal start parts _ = ⊥
 
--- The call of a step line had looked at a region that shows no whole image. Where the start shows one, checksums don't tell payloads apart there.
+-- The call of a step line had looked at a region that shows no whole image. Where the start shows one, an opener had died, or checksums don't
+-- tell payloads apart there.
 pub record MetNoImage (start : Region) (parts : List Part) (who count : ℕ) : Type 0 where
   pub call : Running
   pub runs : running who parts ≡ Some call
@@ -244,7 +283,7 @@ pub record MetNoImage (start : Region) (parts : List Part) (who count : ℕ) : T
   pub earlier : List Event
   pub is : later ++ earlier ≡ made ++ past_of parts
   pub not_whole : (n : ℕ) → shown (region_after start earlier) ≢ Whole n
-  pub apart : (n : ℕ) → shown start ≡ Whole n → Apart start earlier → ⊥
+  pub apart : (n : ℕ) → shown start ≡ Whole n → NoneDies earlier → Apart start earlier → ⊥
 
 abbrev pub MeetsNoImage : Region → List Part → Line → Type 0
 MeetsNoImage start parts (Step who count) = MetNoImage start parts who count

@@ -184,7 +184,7 @@ fn the_first_line_that_cannot_be_done_is_named(rt: HostRuntime) -> Result<(), Fa
         (b"begin 1 1 count\n", b"script 1\n"),
         (b"open leave\nopen leave\n", b"script 2\n"),
         (b"open discard\n", b"script 1\n"),
-        (b"open leave\ndie 1\n", b"script 2\n"),
+        (b"open leave\ndie 2\n", b"script 2\n"),
         (b"open leave\ncall 1 1 count\n", b"script 2\n"),
         (b"open leave\nbegin 1 1 enable\n", b"script 2\n"),
         (b"open leave\nbegin 1 1 disable 0\n", b"script 2\n"),

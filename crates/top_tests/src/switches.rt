@@ -27,7 +27,7 @@ fn two_handlers(alloc: Global) -> Result<HandlerStock, AllocError>
 }
 
 // The status and the text of `play` of a script of at most two openers, on a store of these files.
-fn played_by_two(
+pub(crate) fn played_by_two(
     alloc: Global,
     body: Vec<u8>,
     meta: &[u8],

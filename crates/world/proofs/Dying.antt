@@ -6,6 +6,7 @@ use Rattle.change_log.specs.declared.call.Answer.{Answer}
 use Rattle.region_words.specs.Local.{Local, Seated, seat_state}
 use Rattle.region_words.specs.Share.{ShareState, died as died_with, failed}
 use Rattle.region_words.specs.Told.{History}
+use Rattle.region_words.proofs.Beside.{others_loads}
 use Rattle.opener.specs.Deaths.{DeathEnds, DeathSettles, DiesAt}
 use Rattle.opener.specs.Opener.{MakesOne, Tied, is_ended}
 use Rattle.opener.specs.Quick.{ended_as}
@@ -18,7 +19,7 @@ use Rattle.world.specs.World.{IsWorld, WorldState, calls_running, share_of}
 use Rattle.world.proofs.Handed.{all_kept, as_many, ended_have, ended_kept}
 use Rattle.world.proofs.Numbered.{fewer_run}
 use Rattle.world.proofs.Stepped.{died}
-use Rattle.world.proofs.Turns.{lives_at, same_seat}
+use Rattle.world.proofs.Turns.{lives_at, same_seat, same_tag}
 
 -- it made one event
 makes_one : (work : Work) (bits : Option ℕ) (s t : ShareState) → is_ended work ≡ false → DiesAt work bits s t → MakesOne s t
@@ -71,6 +72,7 @@ module _ (l : Local) (turned new : Seated) (openers : List OpenerState) (answers
         answers = refl;
         start = start_dead;
         noted = refl;
+        others = λ w least most apart. others_loads l new.region (i + 1) w (by_number (λ s t. t.tag ≡ s.tag) (same_tag (seat_state turned) (seat_state new) makes)) least most apart;
       }
 
 -- Its handler is given up.

@@ -5,8 +5,10 @@ use Rattle.std.specs.Prelude.{Option, Some, None, slice_get, ◌==◌}
 use Rattle.change_log.specs.declared.call.Answer.{Answer}
 use Rattle.change_log.specs.declared.call.Call.{Call}
 use Rattle.opener.specs.Adds.{AddsTo, Counts, Loads, raised}
+use Rattle.opener.specs.Deaths.{DiesAt}
 use Rattle.opener.specs.Opener.{KeepsCall, KeepsWork, RunsOn}
 use Rattle.opener.specs.Settles.{answers_by}
+use Rattle.opener.specs.Quick.{ended_as}
 use Rattle.opener.specs.State.{OpenerState}
 use Rattle.opener.specs.declared.calls.Step.{Step}
 use Rattle.opener.specs.declared.calls.Step.TheVariants as step
@@ -15,10 +17,10 @@ use Rattle.opener.specs.declared.work.Work.{Work}
 use Rattle.opener.specs.declared.work.Work.TheVariants.{Idle, Ended, Runs}
 use Rattle.region_words.specs.Local.{Local, account_of, after_admission}
 use Rattle.region_words.specs.Outside.{one_more}
-use Rattle.region_words.specs.Share.{ShareState}
+use Rattle.region_words.specs.Share.{After, Counts as ShareCounts, Left, ShareState, died, failed}
 use Rattle.region_words.specs.declared.account.Account.{Account}
 use Rattle.world.specs.World.{WorldState, share_of}
-use Rattle.world.specs.Moves.{BeginsCall, CameFrom, CountsLoads, Lead, Move, Opening, Beginning, Stepping, IsMove, Opens, Steps, loads_in, loads_of, new_opener}
+use Rattle.world.specs.Moves.{BeginsCall, CameFrom, CountsLoads, Lead, Move, Opening, Beginning, Stepping, Dying, IsMove, Kills, Opens, Steps, loads_in, loads_of, new_opener}
 use Rattle.world.specs.declared.moves.Moved.TheVariants as moved
 use Rattle.world.proofs.Numbered.{AnswersOf, set_elsewhere, set_there}
 use Rattle.world.proofs.Stepped.{after_stop, answers_for, at_work}
@@ -215,6 +217,30 @@ begin_counts maker who asked now o next old new b =
     let runs : loads_running who new.openers ≤ loads_running who old.openers = subst (λ l. loads_here (slice_get l (who - 1)) ≤ loads_running who old.openers) (sym b.openers) (set_runs old.openers (maker - 1) (who - 1) next none) in
     counts_none who old new loads (omega (arith, runs, ap (loads_in who) b.answers))
 
+-- one that dies has made no load more
+dead_runs : (openers : List OpenerState) (i j n : ℕ) → loads_here (slice_get (set openers i (ended_as n)) j) ≤ loads_here (slice_get openers j)
+dead_runs openers i j n = set_runs openers i j (ended_as n) refl
+
+after_death : (left : Left) (s t : ShareState) → left.counts.loads ≡ s.counts.loads → After left s t → t.counts.loads ≡ s.counts.loads
+after_death left s t none after = ap (λ (c : ShareCounts). c.loads) after.counts ∙ none
+
+death_loads : (work : Work) (bits : Option ℕ) (s t : ShareState) → DiesAt work bits s t → t.counts.loads ≡ s.counts.loads
+death_loads Ended bits s t same = ap (λ (x : ShareState). x.counts.loads) same
+death_loads Idle bits s t (inl dies) = after_death (died dies.left s) s t refl dies.goes.after
+death_loads Idle bits s t (inr fails) = after_death (failed s) s t refl fails.after
+death_loads (Runs running at) bits s t (inl dies) = after_death (died dies.left s) s t refl dies.goes.after
+death_loads (Runs running at) bits s t (inr fails) = after_death (failed s) s t refl fails.after
+
+death_counts : (maker who : ℕ) (bits : Option ℕ) (o : OpenerState) (old new : WorldState) → 1 ≤ who → who ≤ 64 → Kills maker bits o old new → CountsMore who old new
+death_counts maker who bits o old new least most kills = counts_none who old new (loads (eqb_tells maker who)) (omega (arith, runs, ap (loads_in who) kills.answers))
+  where
+    runs : loads_running who new.openers ≤ loads_running who old.openers
+    runs = subst (λ l. loads_here (slice_get l (who - 1)) ≤ loads_running who old.openers) (sym kills.openers) (dead_runs old.openers (maker - 1) (who - 1) maker)
+
+    loads : ((eqb maker who ≡ true) × (maker ≡ who)) ⊎ ((eqb maker who ≡ false) × (maker ≢ who)) → loads_of new who ≡ loads_of old who
+    loads (inl same) = subst (λ w. loads_of new w ≡ loads_of old w) same.1 (death_loads o.work bits (share_of old.region maker) (share_of new.region maker) kills.dies)
+    loads (inr apart) = kills.others who least most (λ e. apart.1 (sym e))
+
 same_counts : (who : ℕ) (old new : WorldState) → new ≡ old → CountsMore who old new
 same_counts who old new same = counts_none who old new (ap (λ w. loads_of w who) same) (omega (arith, ap (loads_so_far who) same))
 
@@ -222,6 +248,7 @@ same_counts who old new same = counts_none who old new (ap (λ w. loads_of w who
 move_counts : (who : ℕ) (m : Move) (old new : WorldState) → 1 ≤ who → who ≤ 64 → IsMove m old new → CountsMore who old new
 move_counts who (Opening maker) old new least most opens = open_counts maker who old new opens
 move_counts who (Beginning maker asked now) old new least most b = begin_counts maker who asked now b.0 b.1 old new b.2
+move_counts who (Dying maker bits) old new least most m = death_counts maker who bits m.0 old new least most m.1
 move_counts who (Stepping maker moved.NoOpener) old new least most m = same_counts who old new m.0
 move_counts who (Stepping maker moved.Idle) old new least most m = step_counts maker who m.0 m.1 m.2 old new least most m.4
 move_counts who (Stepping maker moved.Going) old new least most m = step_counts maker who m.0 m.1 m.2 old new least most m.4

@@ -76,7 +76,7 @@ pub same_seat : (s t : ShareState) → MakesOne s t → t.who ≡ s.who
 same_seat s t (inl same) = ap (λ (x : ShareState). x.who) same
 same_seat s t (inr (left, after, few)) = after.same.who
 
-same_tag : (s t : ShareState) → MakesOne s t → t.tag ≡ s.tag
+pub same_tag : (s t : ShareState) → MakesOne s t → t.tag ≡ s.tag
 same_tag s t (inl same) = ap (λ (x : ShareState). x.tag) same
 same_tag s t (inr (left, after, few)) = after.same.tag
 

@@ -135,6 +135,7 @@ pub record Kills (who : ℕ) (bits : Option ℕ) (o : OpenerState) (old new : Wo
   pub answers : new.answers ≡ old.answers
   pub start : new.region.start ≡ old.region.start
   pub noted : new.noted ≡ old.noted
+  pub others : (w : ℕ) → 1 ≤ w → w ≤ MOST_OPENERS → w ≢ who → loads_of new w ≡ loads_of old w
 
 -- the death of the opener of this number, where it lives; where none of that number does, nothing moved
 abbrev pub Dies : ℕ → Option ℕ → Bool → WorldState → WorldState → Type 0
@@ -161,16 +162,18 @@ HoldsAreKept who old new =
     (other : ℕ) (p : OpenerState) → other ≢ who → Lives old.openers other p → 0 < p.holds →
     (region_after new.region.start new.region.past ≡ region_after old.region.start old.region.past) × (changes_of new.region.past ≡ changes_of old.region.past)
 
--- what moves a world: an opener is opened, or begins a call, or makes a step
+-- what moves a world: an opener is opened, begins a call, makes a step, or dies
 pub data Move : Type 0 where
   Opening : ℕ → Move
   Beginning : ℕ → Call → ℕ → Move
   Stepping : ℕ → Moved → Move
+  Dying : ℕ → Option ℕ → Move
 
 abbrev pub IsMove : Move → WorldState → WorldState → Type 0
 IsMove (Opening who) old new = Opens who old new
 IsMove (Beginning who asked now) old new = Begun who asked now old new
 IsMove (Stepping who said) old new = Moves who said old new
+IsMove (Dying who bits) old new = Dies who bits true old new
 
 -- these moves, the latest first, lead from one world to the other
 abbrev pub Lead : List Move → WorldState → WorldState → Type 0

@@ -12,12 +12,12 @@ pub returns-in-Ok-clause-taken : goal.returns-in-Ok-clause-taken
 returns-in-Ok-clause-taken g c = λ stock left start parts text at.
     let b = c.in-Ok.ensures.ok in
     begin_taken stock left start parts (play_state c.args.world.now.core text) (play_state c.begin.new.self.core text) c.args.who c.args.now c.args.call b.0 b.1
-    c.begin.ensures.sound at b.2 refl
+    c.requires.sound c.begin.ensures.sound at b.2 refl
 
 pub returns-in-Err-clause-taken : goal.returns-in-Err-clause-taken
 returns-in-Err-clause-taken g c = λ stock left start parts text at.
     subst (HasHalted stock start parts (Some (Begin c.args.who c.args.now c.args.call))) (sym c.from.ensures)
-    (begin_halted stock left start parts (play_state c.args.world.now.core text) c.args.who c.args.now c.args.call c.in-Err.why at c.in-Err.ensures.err)
+    (begin_halted stock left start parts (play_state c.args.world.now.core text) c.args.who c.args.now c.args.call c.in-Err.why c.requires.sound at c.in-Err.ensures.err)
 
 pub returns-in-Ok-clause-moved : goal.returns-in-Ok-clause-moved
 returns-in-Ok-clause-moved g c =

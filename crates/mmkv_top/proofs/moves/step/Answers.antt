@@ -6,7 +6,7 @@ use Rattle.mmkv_top.proofs.moves.step.Goals as goal
 
 pub returns-then-not-lives-clause-taken : goal.returns-then-not-lives-clause-taken
 returns-then-not-lives-clause-taken g c = λ stock left start parts at can.
-    unliving_halted stock left start parts (play_state c.args.world.now.core c.args.text.now.items) c.args.who at can.0 (λ o lives. let both : true ≡ false = sym (c.lives.ensures.1 (o, lives)) ∙ c.if-not-lives.true in absurd cc)
+    unliving_halted stock left start parts (play_state c.args.world.now.core c.args.text.now.items) c.args.who c.requires.sound at can.0 (λ o lives. let both : true ≡ false = sym (c.lives.ensures.1 (o, lives)) ∙ c.if-not-lives.true in absurd cc)
 
 pub returns-in-Ok-clause-taken : goal.returns-in-Ok-clause-taken
 returns-in-Ok-clause-taken g c = λ stock left start parts at.

@@ -23,3 +23,8 @@ pub returns-in-Some-Step-clause-taken : goal.returns-in-Some-Step-clause-taken
 returns-in-Some-Step-clause-taken g c = λ stock start parts at.
     subst (λ l. Takes stock (stock_of c.args.handlers.now) start parts l (play_state c.step.new.world.core c.step.new.text.items) c.step.result) (sym (c.in-Some-Step.is ∙ ap Some c.in-Some-Step.field-0-is))
     (c.step.ensures.taken stock _ start parts at)
+
+pub returns-in-Some-Die-clause-taken : goal.returns-in-Some-Die-clause-taken
+returns-in-Some-Die-clause-taken g c = λ stock start parts at.
+    subst (λ l. Takes stock (stock_of c.args.handlers.now) start parts l (play_state c.die.new.world.core c.args.text.now.items) c.die.result) (sym (c.in-Some-Die.is ∙ ap Some c.in-Some-Die.field-0-is))
+    (c.die.ensures.taken stock _ start parts c.args.text.now.items at)
