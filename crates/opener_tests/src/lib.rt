@@ -4,6 +4,8 @@
 #[cfg(test)]
 mod calls;
 #[cfg(test)]
+mod deaths;
+#[cfg(test)]
 mod loads;
 #[cfg(test)]
 mod quick;

@@ -4,6 +4,8 @@
 #[cfg(test)]
 mod appended;
 #[cfg(test)]
+mod deaths;
+#[cfg(test)]
 mod openings;
 #[cfg(test)]
 mod turns;
