@@ -4,3 +4,7 @@ mod Drawing
 mod Openings
 mod Askings
 mod Texts
+mod Making
+mod Allowed
+mod Resting
+mod Ending
