@@ -8,3 +8,4 @@ mod Making
 mod Allowed
 mod Resting
 mod Ending
+mod Faulting

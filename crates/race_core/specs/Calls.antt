@@ -1,5 +1,5 @@
 -- What the calls of an opener come to that makes them one after another.
-use Rattle.std.specs.Prelude.{◌≡◌, ℕ, true, List, [], ◌∷◌, Some, None, IfSome, ⊤}
+use Rattle.std.specs.Prelude.{◌≡◌, ◌≢◌, ℕ, true, List, [], ◌∷◌, Some, None, IfSome, ⊤}
 use Rattle.change_log.specs.declared.call.Call.{Call}
 use Rattle.opener.specs.Begins.{call_refusal}
 use Rattle.opener.specs.Calls.{holds_after, is_write}
@@ -9,6 +9,7 @@ use Rattle.opener.specs.declared.calls.Stop.{Stop}
 use Rattle.opener.specs.declared.calls.Stop.TheVariants as stop
 use Rattle.opener.specs.declared.work.Work.{Work}
 use Rattle.opener.specs.declared.work.Work.TheVariants.{Runs}
+use Rattle.region_words.specs.Share.{OnListed, ShareState}
 use Rattle.region_words.specs.Told.{History}
 use Rattle.script_lang.specs.declared.outcome.Outcome.{Outcome}
 use Rattle.script_lang.specs.declared.outcome.Outcome.TheVariants.{Answered, Blocked, Stopped}
@@ -43,6 +44,14 @@ IsTroubleOf (stop.Version n) t = t ≡ trouble.NotWhole
 IsTroubleOf (stop.Flags n) t = t ≡ trouble.NotWhole
 IsTroubleOf stop.Fault t = t ≡ trouble.Fault
 IsTroubleOf _ t = ⊥
+
+-- some calls on the share are to fail
+abbrev pub MayFail : ShareState → Type 0
+MayFail s = OnListed s.fails (λ list. list ≢ [])
+
+-- where it stops by a fault, some calls on the share were to fail
+abbrev pub FaultsWhereListed : ShareState → Stop → Type 0
+FaultsWhereListed s why = why ≡ stop.Fault → MayFail s
 
 -- two histories start with one region
 abbrev pub StartsAs : History → History → Type 0

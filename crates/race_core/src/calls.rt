@@ -3,7 +3,7 @@ ghost use Rattle.std.specs.Prelude.{◌≡◌, [], ◌++◌, ◌∷◌, ℕ, Lis
 ghost use Rattle.change_log.specs.declared.call.Answer.{Answer};
 ghost use Rattle.opener.specs.Begins.{call_refusal};
 ghost use Rattle.opener.specs.Calls.{holds_after};
-ghost use Rattle.opener.specs.Opener.{Tied};
+ghost use Rattle.opener.specs.Opener.{Tied, stop_found};
 ghost use Rattle.opener.specs.Settles.{AreSettled};
 ghost use Rattle.opener.specs.declared.work.Work.TheVariants.{Idle};
 ghost use Rattle.region_words.specs.Share.{IsSameShare};
@@ -13,7 +13,7 @@ ghost use Rattle.script_lang.specs.Played.{reason_said};
 ghost use Rattle.script_lang.specs.declared.outcome.Outcome.TheVariants as Outcome;
 ghost use Rattle.script_lang.specs.declared.outcome.Reason.{Reason as Said};
 ghost use Rattle.race_core.specs.declared.calls.Trouble.TheVariants as Trouble;
-ghost use Rattle.race_core.specs.Calls.{AreAllowed, AreOutcomes, IsMaking, IsOutcomeOf, IsTroubleOf, StartsAs};
+ghost use Rattle.race_core.specs.Calls.{AreAllowed, AreOutcomes, IsMaking, IsOutcomeOf, IsTroubleOf, MayFail, StartsAs};
 
 use crate::entrant::TimedCall;
 use crate::gate::Gate;
@@ -61,6 +61,7 @@ pub(crate) fn make_calls<R: Wait, G: Gate, S: Share>(
     ensures same { IsSameShare (S.state share.old) (S.state share.new) }
     ensures start { OnBoth (S.state share.old).told (S.state share.new).told StartsAs }
     ensures outcomes { OnOk result (AreOutcomes opener.old.core.who calls.items outcomes.new.items) }
+    ensures fault { IfErr result (λ ceased. ceased.why ≡ Trouble.Fault → MayFail (S.state share.old)) }
     ensures idle { OnOk result (opener.new.core.work ≡ Idle) }
     ensures settled { OnOk result (OnTold (S.state share.old).told (AreSettled opener.old.core []) →
         OnTold (S.state share.new).told (AreSettled opener.new.core (answers_in outcomes.new.items))) }
@@ -107,6 +108,7 @@ fn make<R: Wait, S: Share>(
     ensures same { IsSameShare (S.state share.old) (S.state share.new) }
     ensures start { OnBoth (S.state share.old).told (S.state share.new).told StartsAs }
     ensures outcome { IfOk result (IsOutcomeOf opener.old.core.who asked) }
+    ensures fault { IfErr result (λ why. why ≡ Trouble.Fault → MayFail (S.state share.old)) }
     ensures idle { OnOk result (opener.new.core.work ≡ Idle) }
     ensures holds { OnOk result (opener.new.core.holds ≡ holds_after asked.call opener.old.core.holds) }
     ensures settled { IfOk result (λ o. (own : List Answer) → OnTold (S.state share.old).told (AreSettled opener.old.core own) →
@@ -134,6 +136,7 @@ fn begin<S: Share>(opener: &mut Opener, share: &S, asked: TimedCall)
     requires may { call_refusal asked.call opener.old.core.holds ≡ None }
     ensures tied { Tied opener.new.core (S.state share.now) }
     ensures making { IsMaking asked opener.old.core.holds opener.new.core }
+    ensures unstopped { stop_found opener.new.core.work ≡ None }
     ensures settled { (own : List Answer) → OnTold (S.state share.now).told (AreSettled opener.old.core own) → OnTold (S.state share.now).told (AreSettled opener.new.core own) }
 {
     let TimedCall { line: _, now, call } = asked;

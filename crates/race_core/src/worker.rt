@@ -1,12 +1,13 @@
 // A worker: an opener at its seat, from its first call to its death.
-ghost use Rattle.std.specs.Prelude.{◌≡◌, [], IfSome, None, false, true};
+ghost use Rattle.std.specs.Prelude.{◌≡◌, ◌≢◌, [], IfSome, None, false, true};
 ghost use Rattle.opener.specs.Opener.{Tied};
 ghost use Rattle.opener.specs.declared.work.Work.TheVariants.{Idle};
 ghost use Rattle.region_words.specs.Share.{IsSameShare};
 ghost use Rattle.region_words.specs.Told.{OnBoth, OnTold};
 ghost use Rattle.script_lang.specs.Parts.{answers_in};
 ghost use Rattle.step_desk.specs.Passes.{StaysAt, state_of};
-ghost use Rattle.race_core.specs.Calls.{AreAllowed, AreOutcomes, StartsAs};
+ghost use Rattle.race_core.specs.Calls.{AreAllowed, AreOutcomes, MayFail, StartsAs};
+ghost use Rattle.race_core.specs.declared.calls.Trouble.TheVariants as Trouble;
 ghost use Rattle.race_core.specs.Worker.{HasChangedNothing, IsSettledAt, MayWork, RestsFor, history_of};
 
 use crate::calls::{Ceased, make_calls};
@@ -47,6 +48,7 @@ pub fn work<R: Wait, G: Gate>(rt: &R, alloc: Global, gate: &G, desk: &Desk, job:
     ensures start { result.pass.view.about.start ≡ job.pass.view.about.start }
     ensures ended { ((state_of result.pass).ended ≡ true) × ((state_of result.pass).holds ≡ None) }
     ensures outcomes { result.ceased ≡ None → AreOutcomes job.pass.view.who job.calls.items result.outcomes.items }
+    ensures fault { IfSome result.ceased (λ ceased. ceased.why ≡ Trouble.Fault → job.pass.view.about.failing.listed ≢ []) }
     ensures settled { result.ceased ≡ None → IsSettledAt job.pass.view.who (answers_in result.outcomes.items) (history_of result.pass) }
 {
     a_seat_stays_at_its_desk();
@@ -85,6 +87,7 @@ fn live<R: Wait, G: Gate, S: Share>(
     ensures start { OnBoth (S.state share.old).told (S.state share.new).told StartsAs }
     ensures ended { ((S.state share.new).ended ≡ true) × ((S.state share.new).holds ≡ None) }
     ensures outcomes { result ≡ None → AreOutcomes (S.state share.old).who calls.items outcomes.new.items }
+    ensures fault { IfSome result (λ ceased. ceased.why ≡ Trouble.Fault → MayFail (S.state share.old)) }
     ensures settled { result ≡ None → OnTold (S.state share.new).told (IsSettledAt (S.state share.old).who (answers_in outcomes.new.items)) }
 {
     let mut opener = opener_of(alloc, share, handler);

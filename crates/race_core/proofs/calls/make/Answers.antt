@@ -1,7 +1,9 @@
 use Rattle.std.proofs.Common.{append-nil, sym, subst, ◌∙◌}
+use Rattle.opener.specs.Opener.{stop_found}
 use Rattle.opener.specs.Settles.{AreSettled}
 use Rattle.opener.specs.declared.calls.Step.TheVariants as step
 use Rattle.region_words.specs.Told.{OnTold}
+use Rattle.race_core.proofs.Faulting.{found_faults, trouble_faults, waits_faults}
 use Rattle.race_core.proofs.Making.{came, same_join, same_made, start_join, start_made, stopped_holds, stopped_idle, stopped_outcome, waits_on, waits_unanswered}
 use Rattle.race_core.proofs.calls.make.Goals as goal
 
@@ -15,6 +17,7 @@ loop-preserved-in-Going g c =
       came c.args.asked c.args.opener.now.core.holds c.loop.opener.core c.step.new.self.core step.Going s t c.loop.invariant.3 c.loop.invariant.0.at c.in-Going.ensures.call c.in-Going.ensures.cause c.in-Going.ensures.falls,
       (λ own settled. subst (λ l. OnTold t.told (AreSettled c.step.new.self.core l)) (append-nil own) (c.in-Going.ensures.settles own (c.loop.invariant.4 own settled))),
       c.loop.invariant.5,
+      found_faults (g.S.Share.state c.args.share.now) s t c.loop.invariant.1 c.loop.opener.core.work (stop_found c.step.new.self.core.work) c.in-Going.ensures.cause,
     )
 
 pub loop-preserved : goal.loop-preserved
@@ -30,6 +33,7 @@ loop-preserved g c =
           (came c.args.asked held o c.step.new.self.core c.step.result s t c.loop.invariant.3 c.loop.invariant.0.at c.step.ensures.call c.step.ensures.cause c.step.ensures.falls),
       (λ own settled. subst (λ l. OnTold t.told (AreSettled c.step.new.self.core l)) (waits_unanswered c.step.result own c.in-Again.is) (c.step.ensures.settles own (c.loop.invariant.4 own settled))),
       c.loop.invariant.5,
+      waits_faults c.args.asked (g.S.Share.state c.args.share.now) t c.loop.opener.core.work c.step.new.self.core.work c.step.result c.loop.invariant.3.runs c.in-Again.is c.step.ensures.falls c.loop.invariant.6,
     )
 
 pub returns-in-Answered-clause-start : goal.returns-in-Answered-clause-start
@@ -65,3 +69,8 @@ returns-in-Stopped-clause-holds g c =
     let held = c.args.opener.now.core.holds in
     stopped_holds c.args.asked held c.args.opener.now.core.who c.in-Stopped.stop c.step.new.self.core c.outcome_of.result c.who-who.result c.loop.invariant.5 c.outcome_of.ensures.ok
     (came c.args.asked held c.loop.opener.core c.step.new.self.core (step.Stopped c.in-Stopped.stop) s t c.loop.invariant.3 c.loop.invariant.0.at c.in-Stopped.ensures.call c.in-Stopped.ensures.cause c.in-Stopped.ensures.falls)
+
+pub returns-in-Stopped-clause-fault : goal.returns-in-Stopped-clause-fault
+returns-in-Stopped-clause-fault g c =
+    trouble_faults (g.S.Share.state c.args.share.now) (g.S.Share.state c.loop.share) (g.S.Share.state c.step.new.share) c.loop.invariant.1 c.loop.opener.core.work c.in-Stopped.stop c.outcome_of.result
+    c.loop.invariant.6 c.in-Stopped.ensures.cause c.outcome_of.ensures.err
