@@ -3,3 +3,4 @@ pub mod Script
 pub mod Reading
 pub mod Calls
 pub mod Worker
+pub mod Threads

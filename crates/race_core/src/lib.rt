@@ -6,6 +6,7 @@ mod entrant;
 mod gate;
 mod halt;
 mod script;
+mod threads;
 mod worker;
 
 pub use calls::{Ceased, Trouble};
@@ -13,4 +14,5 @@ pub use entrant::{Entrant, TimedCall};
 pub use gate::{Gate, OpenGate};
 pub use halt::{Halt, Halted};
 pub use script::{Field, read_race};
+pub use threads::work_all;
 pub use worker::{Done, Job, work};
