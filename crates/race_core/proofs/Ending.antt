@@ -1,16 +1,16 @@
 -- What the death of an opener leaves.
 use Rattle.std.proofs.Common.{◌≡◌, ◌⊎◌, true, refl, sym, ap, inl, inr, subst}
-use Rattle.std.specs.Prelude.{Option, None}
+use Rattle.std.specs.Prelude.{Option, None, Some}
 use Rattle.opener.specs.Deaths.{DeathEnds, DiesAt, torn_at}
-use Rattle.opener.specs.Opener.{Tied, is_ended}
+use Rattle.opener.specs.Opener.{Knows, Tied, is_ended}
 use Rattle.opener.specs.State.{OpenerState}
 use Rattle.opener.specs.declared.work.Work.{Work}
 use Rattle.opener.specs.declared.work.Work.TheVariants.{Ended, Idle, Runs}
 use Rattle.region_words.specs.Share.{Dies, Fails, IsSameShare, IsTurnedAway, ShareState, died, failed, turned_away}
-use Rattle.region_words.specs.Told.{OnBoth}
+use Rattle.region_words.specs.Told.{History, OnBoth, OnTold}
 use Rattle.region_words.specs.declared.stops.TornStore.{TornStore}
 use Rattle.race_core.specs.Calls.{StartsAs}
-use Rattle.race_core.specs.Worker.{RestsFor}
+use Rattle.race_core.specs.Worker.{HasHappened, RestsFor}
 use Rattle.race_core.proofs.Making.{same_still, start_after, start_stays}
 use Rattle.race_core.proofs.Resting.{rests_after}
 
@@ -58,6 +58,22 @@ dead_ended o s t tied dies ends = go o.work refl dies
     go Ended is same =
         let old : Tied (record o { work = Ended }) s = subst (λ w. Tied (record o { work = w }) s) is tied in
         subst (λ (x : ShareState). (x.ended ≡ true) × (x.holds ≡ None)) (sym same) (old.ended, old.holds)
+    go Idle is d = lived (ends (ap is_ended is))
+    go (Runs running at) is d = lived (ends (ap is_ended is))
+
+-- what it tells is lawful
+pub dead_lawful : (o : OpenerState) (s t : ShareState) → Tied o s → DiesAt o.work None s t → DeathEnds o t → OnTold t.told HasHappened
+dead_lawful o s t tied dies ends = go o.work refl dies
+  where
+    known : (o : OpenerState) (x : ShareState) (a : Option History) → OnTold a (Knows o x) → OnTold a HasHappened
+    known o x None told = tt
+    known o x (Some h) told = told.agrees.lawful
+
+    lived : Tied (record { who = o.who; image = None; holds = 0; work = Ended }) t → OnTold t.told HasHappened
+    lived there = known (record { who = o.who; image = None; holds = 0; work = Ended }) t t.told there.told
+
+    go : (w : Work) → o.work ≡ w → DiesAt w None s t → OnTold t.told HasHappened
+    go Ended is same = subst (λ (x : ShareState). OnTold x.told HasHappened) (sym same) (known o s s.told tied.told)
     go Idle is d = lived (ends (ap is_ended is))
     go (Runs running at) is d = lived (ends (ap is_ended is))
 

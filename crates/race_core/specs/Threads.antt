@@ -3,7 +3,7 @@ use Rattle.std.specs.Prelude.{◌≡◌, ◌≢◌, ℕ, true, List, [], length,
 use Rattle.script_lang.specs.Parts.{answers_in}
 use Rattle.step_desk.specs.Passes.{PassState, StaysAt, state_of}
 use Rattle.race_core.specs.Calls.{AreOutcomes}
-use Rattle.race_core.specs.Worker.{IsSettledAt, history_of}
+use Rattle.race_core.specs.Worker.{HasHappened, IsSettledAt, history_of}
 use Rattle.race_core.specs.declared.calls.Trouble.TheVariants as trouble
 use Rattle.race_core.specs.declared.worker.Done.{Done}
 use Rattle.race_core.specs.declared.entrant.TimedCall.{TimedCall}
@@ -16,6 +16,7 @@ pub record IsDone (pass : PassState) (calls : List TimedCall) (done : Done) : Ty
   -- its opener is dead, and holds no lock
   pub ended : (state_of done.pass).ended ≡ true
   pub free : (state_of done.pass).holds ≡ None
+  pub lawful : HasHappened (history_of done.pass)
   -- where it made all its calls, an outcome for each, and its answers settled
   pub outcomes : done.ceased ≡ None → AreOutcomes pass.view.who calls done.outcomes.items
   pub settled : done.ceased ≡ None → IsSettledAt pass.view.who (answers_in done.outcomes.items) (history_of done.pass)

@@ -3,6 +3,7 @@ use Rattle.std.specs.Prelude.{◌≡◌, ℕ, false, List, ◌++◌, None}
 use Rattle.change_log.specs.Settled.{IsSettled, NoneBy}
 use Rattle.change_log.specs.declared.call.Answer.{Answer}
 use Rattle.region_words.specs.Apart.{Apart}
+use Rattle.region_words.specs.Lawful.{Lawful}
 use Rattle.region_words.specs.Past.{changes_of}
 use Rattle.region_words.specs.Region.{IsAccepted, base}
 use Rattle.region_words.specs.Told.{History}
@@ -12,6 +13,10 @@ use Rattle.step_desk.specs.Passes.{PassState, state_of}
 -- the journal that a pass has seen
 abbrev pub history_of : PassState → History
 history_of p = record { start = p.view.about.start; past = p.view.seen }
+
+-- each of its events was possible where it happened
+abbrev pub HasHappened : History → Type 0
+HasHappened h = Lawful h.start h.past
 
 -- none of its changes is this opener's
 abbrev pub HasChangedNothing : ℕ → History → Type 0

@@ -8,7 +8,7 @@ ghost use Rattle.script_lang.specs.Parts.{answers_in};
 ghost use Rattle.step_desk.specs.Passes.{StaysAt, state_of};
 ghost use Rattle.race_core.specs.Calls.{AreAllowed, AreOutcomes, MayFail, StartsAs};
 ghost use Rattle.race_core.specs.declared.calls.Trouble.TheVariants as Trouble;
-ghost use Rattle.race_core.specs.Worker.{HasChangedNothing, IsSettledAt, MayWork, RestsFor, history_of};
+ghost use Rattle.race_core.specs.Worker.{HasChangedNothing, HasHappened, IsSettledAt, MayWork, RestsFor, history_of};
 
 use crate::calls::{Ceased, make_calls};
 use crate::entrant::TimedCall;
@@ -47,6 +47,7 @@ pub fn work<R: Wait, G: Gate>(rt: &R, alloc: Global, gate: &G, desk: &Desk, job:
     ensures same { StaysAt job.pass result.pass }
     ensures start { result.pass.view.about.start ≡ job.pass.view.about.start }
     ensures ended { ((state_of result.pass).ended ≡ true) × ((state_of result.pass).holds ≡ None) }
+    ensures lawful { HasHappened (history_of result.pass) }
     ensures outcomes { result.ceased ≡ None → AreOutcomes job.pass.view.who job.calls.items result.outcomes.items }
     ensures fault { IfSome result.ceased (λ ceased. ceased.why ≡ Trouble.Fault → job.pass.view.about.failing.listed ≢ []) }
     ensures settled { result.ceased ≡ None → IsSettledAt job.pass.view.who (answers_in result.outcomes.items) (history_of result.pass) }
@@ -86,6 +87,7 @@ fn live<R: Wait, G: Gate, S: Share>(
     ensures same { IsSameShare (S.state share.old) (S.state share.new) }
     ensures start { OnBoth (S.state share.old).told (S.state share.new).told StartsAs }
     ensures ended { ((S.state share.new).ended ≡ true) × ((S.state share.new).holds ≡ None) }
+    ensures lawful { OnTold (S.state share.new).told HasHappened }
     ensures outcomes { result ≡ None → AreOutcomes (S.state share.old).who calls.items outcomes.new.items }
     ensures fault { IfSome result (λ ceased. ceased.why ≡ Trouble.Fault → MayFail (S.state share.old)) }
     ensures settled { result ≡ None → OnTold (S.state share.new).told (IsSettledAt (S.state share.old).who (answers_in outcomes.new.items)) }
@@ -106,6 +108,7 @@ fn end<R: Wait, S: Share>(rt: &R, opener: Opener, share: &mut S)
     ensures start { OnBoth (S.state share.old).told (S.state share.new).told StartsAs }
     ensures ended { ((S.state share.new).ended ≡ true) × ((S.state share.new).holds ≡ None) }
     ensures rests { opener.core.work ≡ Idle → OnBoth (S.state share.old).told (S.state share.new).told (RestsFor (S.state share.old).who) }
+    ensures lawful { OnTold (S.state share.new).told HasHappened }
 {
     let backoff = Backoff::new();
     let mut living = opener;
@@ -126,6 +129,7 @@ fn die<S: Share>(opener: Opener, share: &mut S) -> Option<Opener>
     ensures start { OnBoth (S.state share.old).told (S.state share.new).told StartsAs }
     ensures ended { result ≡ None → ((S.state share.new).ended ≡ true) × ((S.state share.new).holds ≡ None) }
     ensures rests { opener.core.work ≡ Idle → OnBoth (S.state share.old).told (S.state share.new).told (RestsFor (S.state share.old).who) }
+    ensures lawful { result ≡ None → OnTold (S.state share.new).told HasHappened }
     ensures back { IfSome result (λ o. (o.core ≡ opener.core) × Tied o.core (S.state share.new)) }
 {
     match opener.die(share, None) {
