@@ -4,3 +4,8 @@ mod Drawing
 mod Openings
 mod Askings
 mod Texts
+mod Making
+mod Allowed
+mod Resting
+mod Ending
+mod Faulting
