@@ -27,10 +27,7 @@ fn cut_put(alloc: Global, death: &[u8]) -> Result<(u8, Vec<u8>), Memory> {
     let (body, meta) = one_pair(alloc)?;
     let begin =
         b"open leave\nopen leave\nbegin 1 100 get 6b\nstep 1 100\nbegin 1 100 put 6b text 64 0\n";
-    let script = joined(
-        alloc,
-        &[begin, death, b"begin 2 100 get 6b\nstep 2 100\n"],
-    )?;
+    let script = joined(alloc, &[begin, death, b"begin 2 100 get 6b\nstep 2 100\n"])?;
     played_by_two(alloc, body, &meta, &script)
 }
 
@@ -38,14 +35,36 @@ fn cut_put(alloc: Global, death: &[u8]) -> Result<(u8, Vec<u8>), Memory> {
 #[test]
 fn the_next_opener_sees_what_a_death_in_a_put_left(rt: HostRuntime) -> Result<(), Fail> {
     let alloc = rt.alloc();
-    let old = b"answer 2 get 6b now 100 begun 0 place 0 ended 0 loads 13 stores 0 locks 1 reply value 03616263\nchanges 0\n".as_slice();
-    let new = b"answer 2 get 6b now 100 begun 1 place 1 ended 1 loads 14 stores 0 locks 1 reply value 0164\nchanges 1\nchange 0 1 put 6b 0164 0\n".as_slice();
+    let old =
+        b"answer 2 get 6b now 100 begun 0 place 0 ended 0 loads 13 stores 0 locks 1 reply value 03616263\nchanges 0\n".as_slice();
+    let new =
+        b"answer 2 get 6b now 100 begun 1 place 1 ended 1 loads 14 stores 0 locks 1 reply value 0164\nchanges 1\nchange 0 1 put 6b 0164 0\n".as_slice();
     let rows: [(&[u8], &[u8], &[u8]); 5] = [
-        (b"step 1 5\ndie 1 ffffffff\n", old, b"sizes header 11 record 11 last 4\n"),
-        (b"step 1 6\ndie 1\n", old, b"sizes header 11 record 11 last 4\n"),
-        (b"step 1 6\ndie 1 00000000\n", old, b"sizes header 11 record 11 last 4\n"),
-        (b"step 1 8\ndie 1\n", old, b"sizes header 16 record 11 last 4\n"),
-        (b"step 1 10\ndie 1\n", new, b"sizes header 16 record 16 last 4\n"),
+        (
+            b"step 1 5\ndie 1 ffffffff\n",
+            old,
+            b"sizes header 11 record 11 last 4\n",
+        ),
+        (
+            b"step 1 6\ndie 1\n",
+            old,
+            b"sizes header 11 record 11 last 4\n",
+        ),
+        (
+            b"step 1 6\ndie 1 00000000\n",
+            old,
+            b"sizes header 11 record 11 last 4\n",
+        ),
+        (
+            b"step 1 8\ndie 1\n",
+            old,
+            b"sizes header 16 record 11 last 4\n",
+        ),
+        (
+            b"step 1 10\ndie 1\n",
+            new,
+            b"sizes header 16 record 16 last 4\n",
+        ),
     ];
     for (death, answer, sizes) in rows {
         let (status, text) = cut_put(alloc, death)?;
