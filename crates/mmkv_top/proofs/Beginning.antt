@@ -18,7 +18,6 @@ use Rattle.opener.specs.declared.work.Work.TheVariants.{Idle, Ended, Runs}
 use Rattle.region_words.specs.Local.{Local, account_of}
 use Rattle.region_words.specs.Past.{changes_of, has_died, region_after}
 use Rattle.region_words.specs.Region.{Region, file_size}
-use Rattle.region_words.specs.Share.{most_events}
 use Rattle.region_words.specs.declared.event.Event.{Event}
 use Rattle.script_lang.specs.Texts.{outcome_line}
 use Rattle.script_lang.specs.declared.line.Line.{Line}
@@ -32,7 +31,7 @@ use Rattle.mmkv_top.specs.Halting.{of_begin}
 use Rattle.mmkv_top.specs.State.{PlayState}
 use Rattle.script_lang.specs.Parts.{going_on, Part, answers_in, asked_of, lives, opened_by, outcomes_of, past_of, running, Running, strategies}
 use Rattle.script_lang.specs.Journal.{AreAnswered, IsPlayableLine}
-use Rattle.script_lang.specs.Played.{IsPartOf, Stock, drawn, places_after, stocked}
+use Rattle.script_lang.specs.Played.{IsPartOf, Stock, drawn, stocked}
 use Rattle.mmkv_top.specs.Progress.{AreEarlier, FollowsWork, HasHalted, HasMarked, HasStored, IsAt, IsBounded, IsLeft, IsNobody, IsOpenTo, IsOpened, IsUnopened, StopSaw, TakesOne}
 use Rattle.mmkv_top.proofs.Histories.{history_of, shown_of}
 use Rattle.mmkv_top.proofs.Answering.{earlier_now}

@@ -10,7 +10,6 @@ use Rattle.change_log.specs.History.{IsMade, IsPlaced}
 use Rattle.change_log.specs.declared.change.Change.{Change}
 use Rattle.expiring_map.specs.Map.{Map}
 use Rattle.handlers.specs.declared.handler.Strategy.{Strategy}
-use Rattle.lock_rules.specs.declared.table.LockKind.TheVariants.{Exclusive}
 use Rattle.opener.specs.Deaths.{DiesAt, torn_at, torn_first}
 use Rattle.opener.specs.Opener.{Owes, Tied, is_ended, is_storing}
 use Rattle.opener.specs.Quick.{ended_as}
@@ -22,12 +21,11 @@ use Rattle.region_words.specs.Apart.{Apart}
 use Rattle.region_words.specs.Lawful.{Between, Lawful, MayComeNext, Phase, Within, map_after, room_of}
 use Rattle.region_words.specs.Local.{Local, Seated, seat_state}
 use Rattle.region_words.specs.Owing.{Comes}
-use Rattle.region_words.specs.Past.{changes_of, locks_after, region_after}
+use Rattle.region_words.specs.Past.{changes_of, region_after}
 use Rattle.region_words.specs.Region.{Region, base}
 use Rattle.region_words.specs.Rows.{Row}
-use Rattle.region_words.specs.Share.{Dies, ShareState, lock_of, made_by, torn_word}
+use Rattle.region_words.specs.Share.{Dies, ShareState, made_by, torn_word}
 use Rattle.region_words.specs.declared.event.Event.{Event}
-use Rattle.region_words.specs.declared.event.Mark.{Mark}
 use Rattle.region_words.specs.declared.event.Side.TheVariants.{Data, Meta}
 use Rattle.region_words.specs.declared.event.TornWord.{TornWord}
 use Rattle.region_words.specs.declared.event.What.{What}
@@ -37,10 +35,9 @@ use Rattle.script_lang.specs.Journal.{AreAnswered}
 use Rattle.script_lang.specs.Parts.{Part, answers_in, going_on, holds_of, outcomes_of, own_of, past_of, running, strategies}
 use Rattle.script_lang.specs.Played.{IsTorn, MayLeave, StoresNoPayload, Stock, drawn, stocked}
 use Rattle.script_lang.specs.Texts.{outcome_line}
-use Rattle.script_lang.specs.declared.line.Line.{Line}
 use Rattle.script_lang.specs.declared.line.Line.TheVariants.{Die}
 use Rattle.world.specs.Moves.{Kills}
-use Rattle.world.specs.World.{IsSound, Lives, share_of}
+use Rattle.world.specs.World.{IsSound, share_of}
 use Rattle.world.proofs.Numbered.{set_elsewhere, set_is}
 use Rattle.mmkv_top.specs.Progress.{IsAt, IsGone, IsLeft, IsNobody, IsOpenTo, IsUnopened, TakesOne}
 use Rattle.mmkv_top.specs.State.{PlayState}

@@ -1,9 +1,9 @@
 -- A line of steps is taken, or ends the play.
-use Rattle.std.proofs.Common.{◌≡◌, ◌≢◌, ℕ, zero, suc, ◌+◌, ◌-◌, ◌<◌, ◌≤◌, ◌⊎◌, Bool, true, false, not, ◌||◌, eqb, List, [], ◌∷◌, ◌++◌, length, set, refl, sym, ap, ◌∙◌, inl, inr, arith, subst, append-nil}
+use Rattle.std.proofs.Common.{◌≡◌, ◌≢◌, ℕ, zero, suc, ◌+◌, ◌-◌, ◌<◌, ◌≤◌, ◌⊎◌, Bool, true, false, not, eqb, List, [], ◌∷◌, ◌++◌, length, set, refl, sym, ap, ◌∙◌, inl, inr, arith, subst, append-nil}
 use Rattle.std.proofs.lemmas.Bool.Decides.{eqb_tells, nat_tests}
 use Rattle.std.proofs.lemmas.List.{length-set}
 use Rattle.std.proofs.lemmas.List.Concat.{flat_map-append}
-use Rattle.std.specs.Prelude.{All, Option, Some, None, IfErr, IsTrue, OnOk, Result, Ok, Err, flat_map, nat_le, option_map, slice_get, ◌&&◌, ◌==◌}
+use Rattle.std.specs.Prelude.{All, Option, Some, None, IfErr, IsTrue, OnOk, Result, Ok, Err, flat_map, nat_le, option_map, slice_get, ◌&&◌}
 use Rattle.change_log.specs.Settled.{AreEndedBy}
 use Rattle.handlers.specs.declared.handler.Strategy.{Strategy}
 use Rattle.opener.specs.Opener.{OnAnswer, IsAnswer}

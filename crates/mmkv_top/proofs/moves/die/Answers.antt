@@ -1,5 +1,4 @@
-use Rattle.std.proofs.Common.{◌≡◌, Bool, true, false, refl, sym, subst}
-use Rattle.std.specs.Prelude.{Some}
+use Rattle.std.proofs.Common.{refl, sym, subst}
 use Rattle.mmkv_top.specs.State.{play_state}
 use Rattle.mmkv_top.proofs.Beginning.{unliving_halted}
 use Rattle.mmkv_top.proofs.Deaths.{death_taken}
