@@ -9,3 +9,4 @@ mod Allowed
 mod Resting
 mod Ending
 mod Faulting
+mod Joining

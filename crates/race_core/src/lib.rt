@@ -14,5 +14,5 @@ pub use entrant::{Entrant, TimedCall};
 pub use gate::{Gate, OpenGate};
 pub use halt::{Halt, Halted};
 pub use script::{Field, read_race};
-pub use threads::work_all;
+pub use threads::{take_in, work_all};
 pub use worker::{Done, Job, work};
