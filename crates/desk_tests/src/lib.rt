@@ -9,3 +9,5 @@ mod openers;
 mod seats;
 #[cfg(test)]
 mod threads;
+#[cfg(test)]
+mod workers;
